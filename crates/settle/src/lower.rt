@@ -1,10 +1,12 @@
 //! The predecessors of a processed position learn of it.
-ghost use Rattle.std.specs.Prelude.{◌≡◌, ◌↔◌, ◌+◌, ◌^◌, ◌<◌, ◌≤◌, ◌⊎◌, ℕ, true, OnOk, IfErr, Err, length};
+ghost use Rattle.std.specs.Prelude.{◌≡◌, ◌↔◌, ◌+◌, ◌*◌, ◌^◌, ◌<◌, ◌≤◌, ◌⊎◌, ℕ, true, OnOk, IfErr, Err, length};
 ghost use Rattle.retrograde.specs.declared.records.Record.{Record};
 ghost use Rattle.retrograde.specs.Stored.{HasRecord};
 ghost use Rattle.retrograde.specs.Changes.{with_record, with_settled};
 ghost use Rattle.retrograde.specs.aid.Processing.{lower_at, lowered_below};
+ghost use Rattle.table.specs.declared.limits.TheConstants.{PAGES_PER_ENTRY};
 ghost use Rattle.frontier.specs.Causes.{IsRefusal, Leaves};
+ghost use Rattle.frontier.specs.Entries.{edges_below};
 ghost use Rattle.frontier.specs.declared.fault.StepFault.TheVariants.{Inconsistent};
 ghost use Rattle.settle.specs.aid.Stuck.{IsStuck, IsStuckAt};
 
@@ -27,6 +29,7 @@ fn settle<T: Table>(table: &mut T, number: u32, kept: Record) -> Result<(), Step
     ensures goes_on { IfErr result (λ fault. ¬ IsRefusal fault) }
     ensures ahead { OnOk result (T.goes_on table.old table.new) }
     ensures left { IfErr result (Leaves (T.goes_on table.old table.new) (T.fails table.old table.new)) }
+    ensures takes { T.free table.old ≤ T.free table.new + PAGES_PER_ENTRY * 2 }
 {
     let counts = table.counts();
     if counts.settled >= counts.known {
@@ -56,6 +59,7 @@ fn lower<M: MoveSource, T: Table>(
     ensures goes_on { IfErr result (λ fault. ¬ IsRefusal fault) }
     ensures ahead { OnOk result (T.goes_on table.old table.new) }
     ensures left { IfErr result (Leaves (T.goes_on table.old table.new) (T.fails table.old table.new)) }
+    ensures takes { T.free table.old ≤ T.free table.new + PAGES_PER_ENTRY * 2 }
 {
     let packed = table.packed(predecessor)?;
     let mover = source.mover(&packed);
@@ -94,6 +98,8 @@ pub fn lower_all<M: MoveSource, T: Table>(
     ensures goes_on { IfErr result (λ fault. ¬ IsRefusal fault) }
     ensures ahead { OnOk result (T.goes_on table.old table.new) }
     ensures left { IfErr result (Leaves (T.goes_on table.old table.new) (T.fails table.old table.new)) }
+    ensures takes { T.is_honest table.old → T.free table.old ≤ T.free table.new
+        + PAGES_PER_ENTRY * (2 * edges_below (T.stored table.old) number (length (T.stored table.old).positions)) }
 {
     let mut after: Option<u32> = None;
     while let Some(predecessor) = table.next_edge(number, after)? {

@@ -1,8 +1,11 @@
 //! The settled position that waits first.
-ghost use Rattle.std.specs.Prelude.{◌≡◌, ◌↔◌, ◌<◌, IfOk, OnOk, IfErr, Err};
-ghost use Rattle.retrograde.specs.Stored.{IsTable};
+ghost use Rattle.std.specs.Prelude.{◌≡◌, ◌↔◌, ◌+◌, ◌<◌, ◌≤◌, ℕ, IfOk, OnOk, IfErr, Err, slice_get, Some};
+ghost use Rattle.retrograde.specs.Stored.{IsTable, processed_count};
 ghost use Rattle.retrograde.specs.Processing.{IsNextSettled, with_processed_alone};
+ghost use Rattle.table.specs.declared.fault.TableFault.{TableFault};
+ghost use Rattle.table.specs.declared.limits.TheConstants.{PAGES_PER_ENTRY};
 ghost use Rattle.frontier.specs.Causes.{IsRefusal, Leaves};
+ghost use Rattle.frontier.specs.declared.fault.StepFault.{StepFault};
 ghost use Rattle.frontier.specs.declared.fault.StepFault.TheVariants.{Inconsistent};
 
 use frontier::StepFault;
@@ -30,6 +33,9 @@ pub fn process_next<T: Table>(table: &mut T) -> Result<Settled, StepFault>
     ensures goes_on { IfErr result (λ fault. ¬ IsRefusal fault) }
     ensures ahead { OnOk result (T.goes_on table.old table.new) }
     ensures left { IfErr result (Leaves (T.goes_on table.old table.new) (T.fails table.old table.new)) }
+    ensures takes { T.free table.old ≤ T.free table.new + PAGES_PER_ENTRY }
+    ensures full { T.is_honest table.old → result ≡ Err (StepFault.Table TableFault.TableFull)
+        → (s : ℕ) × (slice_get (T.stored table.old).order (processed_count (T.stored table.old)) ≡ Some s) }
 {
     let counts = table.counts();
     let number = table.settled_at(counts.processed)?;

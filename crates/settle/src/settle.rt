@@ -1,12 +1,16 @@
 //! One settled position is processed.
-ghost use Rattle.std.specs.Prelude.{◌≡◌, ◌↔◌, ◌+◌, ◌^◌, ◌<◌, ◌≤◌, ℕ, IfOk, OnOk, IfErr, Err, length};
+ghost use Rattle.std.specs.Prelude.{◌≡◌, ◌↔◌, ◌+◌, ◌*◌, ◌^◌, ◌<◌, ◌≤◌, ℕ, IfOk, OnOk, IfErr, Err, length};
 ghost use Rattle.rbg_game.specs.declared.roles.Player.{Player};
 ghost use Rattle.retrograde.specs.declared.records.Record.{Record};
 ghost use Rattle.retrograde.specs.Stored.{IsTable};
 ghost use Rattle.retrograde.specs.Sound.{IsLocallySound};
 ghost use Rattle.retrograde.specs.Settles.{Settles};
+ghost use Rattle.table.specs.declared.fault.TableFault.{TableFault};
+ghost use Rattle.table.specs.declared.limits.TheConstants.{PAGES_PER_ENTRY};
 ghost use Rattle.frontier.specs.Causes.{IsRefusal, Leaves};
 ghost use Rattle.frontier.specs.Done.{IsUnitDone};
+ghost use Rattle.frontier.specs.Entries.{WritesAtMost};
+ghost use Rattle.frontier.specs.declared.fault.StepFault.{StepFault};
 ghost use Rattle.frontier.specs.declared.fault.StepFault.TheVariants.{Inconsistent};
 
 use crate::lower::lower_all;
@@ -22,6 +26,9 @@ use table::Table;
 /// table within the limit of 16,777,216 positions. After an error the caller gives the table up: want
 /// of memory may come at any point, and `Inconsistent` only where the table did not agree with
 /// itself. No other fault comes.
+///
+/// For each entry that it may write a unit takes `PAGES_PER_ENTRY` pages at most, and `TableFull` comes only where no
+/// more than these were free.
 pub fn settle_one<M: MoveSource, T: Table>(source: &M, table: &mut T) -> Result<u32, StepFault>
     requires source { M.is_sound source.now }
     requires expanded { (T.counted table.old).expanded ≡ (T.counted table.old).known }
@@ -42,6 +49,12 @@ pub fn settle_one<M: MoveSource, T: Table>(source: &M, table: &mut T) -> Result<
     ensures goes_on { IfErr result (λ fault. ¬ IsRefusal fault) }
     ensures ahead { OnOk result (T.goes_on table.old table.new) }
     ensures left { IfErr result (Leaves (T.goes_on table.old table.new) (T.fails table.old table.new)) }
+    ensures takes { T.is_honest table.old → OnOk result ((entries : ℕ)
+        × WritesAtMost (M.graph source.now) (T.stored table.old) entries
+        × (T.free table.old ≤ T.free table.new + PAGES_PER_ENTRY * entries)) }
+    ensures full { T.is_honest table.old → result ≡ Err (StepFault.Table TableFault.TableFull) → (entries : ℕ)
+        × WritesAtMost (M.graph source.now) (T.stored table.old) entries
+        × (T.free table.old ≤ PAGES_PER_ENTRY * entries) }
 {
     let before = table.counts();
     let next = process_next(table)?;

@@ -1,4 +1,4 @@
-use Rattle.std.proofs.Common.{◌∙◌, ap, subst, inl, ℕ, List}
+use Rattle.std.proofs.Common.{◌∙◌, ap, subst, inl, arith, ℕ, List}
 use Rattle.retrograde.specs.declared.records.Counts.{Counts}
 use Rattle.retrograde.specs.Stored.{Stored, HasRecord}
 use Rattle.frontier.proofs.Passing.{passed_on, leaves_after}
@@ -168,3 +168,40 @@ returns-then-due-2-clause-left g c =
     (g.met.T.Table.goes_on_then _ _ _ (g.met.T.Table.stays_goes_on _ _ (g.met.T.Table.stays_then _ _ _ c.in_ok-packed.ensures.stays c.in_ok-kept.ensures.stays)))
     (λ f. g.met.T.Table.fails_since _ _ _ f (g.met.T.Table.stays_goes_on _ _ (g.met.T.Table.stays_then _ _ _ c.in_ok-packed.ensures.stays c.in_ok-kept.ensures.stays))))
     c.settle.ensures.left
+
+pub returns-in_err-packed-clause-takes : goal.returns-in_err-packed-clause-takes
+returns-in_err-packed-clause-takes g c = omega (arith, g.met.T.Table.stays_free _ _ c.in_err-packed.ensures.stays)
+
+pub returns-in_err-kept-clause-takes : goal.returns-in_err-kept-clause-takes
+returns-in_err-kept-clause-takes g c =
+    omega (arith, g.met.T.Table.stays_free _ _ c.in_ok-packed.ensures.stays, g.met.T.Table.stays_free _ _ c.in_err-kept.ensures.stays)
+
+pub returns-then-kept-eq0-clause-takes : goal.returns-then-kept-eq0-clause-takes
+returns-then-kept-eq0-clause-takes g c =
+    omega (arith, g.met.T.Table.stays_free _ _ c.in_ok-packed.ensures.stays, g.met.T.Table.stays_free _ _ c.in_ok-kept.ensures.stays)
+
+pub returns-then-distance-eq4294967295-clause-takes : goal.returns-then-distance-eq4294967295-clause-takes
+returns-then-distance-eq4294967295-clause-takes g c =
+    omega (arith, g.met.T.Table.stays_free _ _ c.in_ok-packed.ensures.stays, g.met.T.Table.stays_free _ _ c.in_ok-kept.ensures.stays)
+
+pub returns-in_err-set_record-clause-takes : goal.returns-in_err-set_record-clause-takes
+returns-in_err-set_record-clause-takes g c =
+    omega (
+      arith,
+      g.met.T.Table.stays_free _ _ c.in_ok-packed.ensures.stays,
+      g.met.T.Table.stays_free _ _ c.in_ok-kept.ensures.stays,
+      c.in_err-set_record.ensures.takes,
+    )
+
+pub returns-clause-takes : goal.returns-clause-takes
+returns-clause-takes g c =
+    omega (
+      arith,
+      g.met.T.Table.stays_free _ _ c.in_ok-packed.ensures.stays,
+      g.met.T.Table.stays_free _ _ c.in_ok-kept.ensures.stays,
+      c.in_ok-set_record.ensures.takes,
+    )
+
+pub returns-then-due-2-clause-takes : goal.returns-then-due-2-clause-takes
+returns-then-due-2-clause-takes g c =
+    omega (arith, g.met.T.Table.stays_free _ _ c.in_ok-packed.ensures.stays, g.met.T.Table.stays_free _ _ c.in_ok-kept.ensures.stays, c.settle.ensures.takes)

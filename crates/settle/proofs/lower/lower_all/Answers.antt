@@ -1,6 +1,7 @@
-use Rattle.std.proofs.Common.{◌<◌, ◌∙◌, rules, ap, length, refl, arith}
+use Rattle.std.proofs.Common.{◌<◌, ◌∙◌, suc, rules, ap, length, refl, arith}
 use Rattle.retrograde.specs.declared.records.Counts.{Counts}
-use Rattle.settle.proofs.Bounds.{step, stuck_at, ends}
+use Rattle.settle.proofs.Bounds.{bound_of, step, stuck_at, ends}
+use Rattle.settle.proofs.Pages.{edges_to, one_more, through, reading_takes, lowering_takes}
 use Rattle.frontier.proofs.Passing.{passed_on, leaves_after}
 use Rattle.frontier.proofs.Faults.{none_done, no_refusal, no_conflict, done_consistent}
 use Rattle.settle.proofs.lower.lower_all.Goals as goal
@@ -22,6 +23,13 @@ loop-predecessor-preserved g c = record {
   honest = search rules;
   ahead = g.met.T.Table.goes_on_then _ _ _ (g.met.T.Table.goes_on_then _ _ _ c.loop-predecessor.invariant.ahead (g.met.T.Table.stays_goes_on _ _ c.in_ok-predecessor.ensures.stays)) c.in_ok-lower.ensures.ahead;
   source = refl;
+  taken = λ honest.
+      let h = c.loop-predecessor.invariant.honest.0 honest in
+      let edge = rw c.in-Some.is at c.in_ok-predecessor.ensures.next h in
+      lowering_takes _ _ _ _ _ _ (c.loop-predecessor.invariant.taken honest) (g.met.T.Table.stays_free _ _ c.in_ok-predecessor.ensures.stays)
+      c.in_ok-lower.ensures.takes
+      (one_more (g.M.GameGraph.graph c.args.source.now) c.args.number c.args.winner c.args.distance (g.T.Table.stored c.args.table.now)
+      _ c.loop-predecessor.after (c.loop-predecessor.invariant.done honest) c.in-Some.predecessor edge);
   done = λ honest.
       let h = c.loop-predecessor.invariant.honest.0 honest in
       let edge = rw c.in-Some.is at c.in_ok-predecessor.ensures.next h in
@@ -104,3 +112,30 @@ returns-clause-left g c = tt
 pub returns-clause-ahead : goal.returns-clause-ahead
 returns-clause-ahead g c =
     g.met.T.Table.goes_on_then _ _ _ c.loop-predecessor.invariant.ahead (g.met.T.Table.stays_goes_on _ _ c.in_ok-predecessor.ensures.stays)
+
+pub returns-in_err-predecessor-clause-takes : goal.returns-in_err-predecessor-clause-takes
+returns-in_err-predecessor-clause-takes g c = λ honest.
+    let count = ap (λ (k : Counts). k.known) (g.met.T.Table.counts_are c.args.table.now honest) in
+    reading_takes _ _ _ _ _ (c.loop-predecessor.invariant.taken honest) (g.met.T.Table.stays_free _ _ c.in_err-predecessor.ensures.stays)
+    (edges_to (g.T.Table.stored c.args.table.now) c.args.number (bound_of c.loop-predecessor.after) _
+    (omega (arith, count, c.loop-predecessor.invariant.within)))
+
+pub returns-in_err-lower-clause-takes : goal.returns-in_err-lower-clause-takes
+returns-in_err-lower-clause-takes g c = λ honest.
+    let h = c.loop-predecessor.invariant.honest.0 honest in
+    let edge = rw c.in-Some.is at c.in_ok-predecessor.ensures.next h in
+    let count = ap (λ (k : Counts). k.known) (g.met.T.Table.counts_are c.args.table.now honest) in
+    let within : c.in-Some.predecessor < (g.T.Table.counted c.loop-predecessor.table).known = rw c.in-Some.is at c.in_ok-predecessor.ensures.within in
+    let more = one_more (g.M.GameGraph.graph c.args.source.now) c.args.number c.args.winner c.args.distance (g.T.Table.stored c.args.table.now)
+    _ c.loop-predecessor.after (c.loop-predecessor.invariant.done honest) c.in-Some.predecessor edge in
+    let all = edges_to (g.T.Table.stored c.args.table.now) c.args.number (suc c.in-Some.predecessor) (length (g.T.Table.stored c.args.table.now).positions)
+    (omega (arith, count, within, c.loop-predecessor.invariant.known)) in
+    lowering_takes _ _ _ _ _ _ (c.loop-predecessor.invariant.taken honest) (g.met.T.Table.stays_free _ _ c.in_ok-predecessor.ensures.stays)
+    c.in_err-lower.ensures.takes (through more all)
+
+pub returns-clause-takes : goal.returns-clause-takes
+returns-clause-takes g c = λ honest.
+    let count = ap (λ (k : Counts). k.known) (g.met.T.Table.counts_are c.args.table.now honest) in
+    reading_takes _ _ _ _ _ (c.loop-predecessor.invariant.taken honest) (g.met.T.Table.stays_free _ _ c.in_ok-predecessor.ensures.stays)
+    (edges_to (g.T.Table.stored c.args.table.now) c.args.number (bound_of c.loop-predecessor.after) _
+    (omega (arith, count, c.loop-predecessor.invariant.within)))

@@ -1,4 +1,4 @@
-use Rattle.std.proofs.Common.{◌∙◌, ap, ℕ, List}
+use Rattle.std.proofs.Common.{◌∙◌, ap, arith, ℕ, List}
 use Rattle.retrograde.specs.Stored.{Stored}
 use Rattle.retrograde.specs.Changes.{with_record}
 use Rattle.frontier.proofs.Passing.{passed_on}
@@ -92,3 +92,15 @@ returns-clause-ahead g c = g.met.T.Table.goes_on_then _ _ _ c.in_ok-push_settled
 
 pub returns-clause-left : goal.returns-clause-left
 returns-clause-left g c = tt
+
+pub returns-in_err-push_settled-clause-takes : goal.returns-in_err-push_settled-clause-takes
+returns-in_err-push_settled-clause-takes g c = omega (arith, c.in_err-push_settled.ensures.takes)
+
+pub returns-in_err-set_record-clause-takes : goal.returns-in_err-set_record-clause-takes
+returns-in_err-set_record-clause-takes g c = omega (arith, c.in_ok-push_settled.ensures.takes, c.in_err-set_record.ensures.takes)
+
+pub returns-clause-takes : goal.returns-clause-takes
+returns-clause-takes g c = omega (arith, c.in_ok-push_settled.ensures.takes, c.in_ok-set_record.ensures.takes)
+
+pub returns-then-counts-clause-takes : goal.returns-then-counts-clause-takes
+returns-then-counts-clause-takes g c = omega arith

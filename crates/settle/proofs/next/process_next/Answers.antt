@@ -1,8 +1,9 @@
-use Rattle.std.proofs.Common.{◌∙◌, ap, arith}
+use Rattle.std.proofs.Common.{◌≡◌, ◌∙◌, ap, subst, ℕ, Some, slice_get, arith}
 use Rattle.retrograde.specs.declared.records.Counts.{Counts}
 use Rattle.settle.proofs.SettleLemmas.{settled_known}
 use Rattle.frontier.proofs.Passing.{passed_on}
 use Rattle.frontier.proofs.Faults.{none_done, none_answered, no_refusal, no_conflict, done_consistent}
+use Rattle.frontier.proofs.Pages.{never_full, conflict_full, done_full}
 use Rattle.settle.proofs.next.process_next.Goals as goal
 
 pub returns-then-number-counts-clause-consistent :
@@ -157,3 +158,59 @@ returns-clause-left g c = tt
 pub returns-clause-ahead : goal.returns-clause-ahead
 returns-clause-ahead g c =
     g.met.T.Table.goes_on_then _ _ _ (g.met.T.Table.stays_goes_on _ _ (g.met.T.Table.stays_then _ _ _ c.in_ok-number.ensures.stays c.in_ok-kept.ensures.stays)) c.in_ok-set_record.ensures.ahead
+
+pub returns-in_err-number-clause-takes : goal.returns-in_err-number-clause-takes
+returns-in_err-number-clause-takes g c = omega (arith, g.met.T.Table.stays_free _ _ c.in_err-number.ensures.stays)
+
+pub returns-then-number-counts-clause-takes : goal.returns-then-number-counts-clause-takes
+returns-then-number-counts-clause-takes g c = omega (arith, g.met.T.Table.stays_free _ _ c.in_ok-number.ensures.stays)
+
+pub returns-in_err-kept-clause-takes : goal.returns-in_err-kept-clause-takes
+returns-in_err-kept-clause-takes g c =
+    omega (arith, g.met.T.Table.stays_free _ _ c.in_ok-number.ensures.stays, g.met.T.Table.stays_free _ _ c.in_err-kept.ensures.stays)
+
+pub returns-in_default-clause-takes : goal.returns-in_default-clause-takes
+returns-in_default-clause-takes g c =
+    omega (arith, g.met.T.Table.stays_free _ _ c.in_ok-number.ensures.stays, g.met.T.Table.stays_free _ _ c.in_ok-kept.ensures.stays)
+
+pub returns-in_err-set_record-clause-takes : goal.returns-in_err-set_record-clause-takes
+returns-in_err-set_record-clause-takes g c =
+    omega (
+      arith,
+      g.met.T.Table.stays_free _ _ c.in_ok-number.ensures.stays,
+      g.met.T.Table.stays_free _ _ c.in_ok-kept.ensures.stays,
+      c.in_err-set_record.ensures.takes,
+    )
+
+pub returns-clause-takes : goal.returns-clause-takes
+returns-clause-takes g c =
+    omega (
+      arith,
+      g.met.T.Table.stays_free _ _ c.in_ok-number.ensures.stays,
+      g.met.T.Table.stays_free _ _ c.in_ok-kept.ensures.stays,
+      c.in_ok-set_record.ensures.takes,
+    )
+
+pub returns-in_err-number-clause-full : goal.returns-in_err-number-clause-full
+returns-in_err-number-clause-full g c =
+    λ honest is. absurd (never_full c.from_residual.result _ c.from_residual.ensures c.in_err-number.ensures.room is)
+
+pub returns-then-number-counts-clause-full : goal.returns-then-number-counts-clause-full
+returns-then-number-counts-clause-full g c = λ honest is. absurd (conflict_full is)
+
+pub returns-in_err-kept-clause-full : goal.returns-in_err-kept-clause-full
+returns-in_err-kept-clause-full g c =
+    λ honest is. absurd (never_full c.from_residual-in_err-kept.result _ c.from_residual-in_err-kept.ensures c.in_err-kept.ensures.room is)
+
+pub returns-in_default-clause-full : goal.returns-in_default-clause-full
+returns-in_default-clause-full g c = λ honest is. absurd (conflict_full is)
+
+pub returns-in_err-set_record-clause-full : goal.returns-in_err-set_record-clause-full
+returns-in_err-set_record-clause-full g c = λ honest is.
+    let processed = ap (λ (k : Counts). k.processed) (c.counts-counts.ensures ∙ g.met.T.Table.counts_are c.args.table.now honest) in (
+      c.in_ok-number.number,
+      subst (λ (k : ℕ). slice_get (g.T.Table.stored c.args.table.now).order k ≡ Some c.in_ok-number.number) processed (c.in_ok-number.ensures.number honest),
+    )
+
+pub returns-clause-full : goal.returns-clause-full
+returns-clause-full g c = λ honest is. absurd (done_full _ is)

@@ -6,6 +6,8 @@ use Rattle.settle.proofs.SettleLemmas.{IsDone, done_from, fits_from, never_stuck
 use Rattle.frontier.specs.declared.fault.StepFault.{StepFault}
 use Rattle.frontier.proofs.Passing.{passed_on, leaves_after, fault_is}
 use Rattle.frontier.proofs.Faults.{none_done, none_answered, done_consistent}
+use Rattle.frontier.proofs.Pages.{fault_full, full_fails, conflict_full, done_full}
+use Rattle.settle.proofs.Pages.{marking_full, processing_takes, processing_full}
 use Rattle.settle.proofs.settle.settle_one.Goals as goal
 
 pub returns-in_err-lower_all-clause-consistent : goal.returns-in_err-lower_all-clause-consistent
@@ -184,3 +186,38 @@ returns-clause-ahead g c = g.met.T.Table.goes_on_then _ _ _ c.in_ok-next.ensures
 
 pub returns-clause-consistent : goal.returns-clause-consistent
 returns-clause-consistent g c = λ honest sound is. done_consistent _ is
+
+pub returns-in_err-next-clause-takes : goal.returns-in_err-next-clause-takes
+returns-in_err-next-clause-takes g c = λ honest. none_done _ c.from_residual.result c.from_residual.ensures.0
+
+pub returns-in_err-lower_all-clause-takes : goal.returns-in_err-lower_all-clause-takes
+returns-in_err-lower_all-clause-takes g c = λ honest. none_done _ c.from_residual-in_err-lower_all.result c.from_residual-in_err-lower_all.ensures.0
+
+pub returns-then-settled-before-clause-takes : goal.returns-then-settled-before-clause-takes
+returns-then-settled-before-clause-takes g c = λ honest. tt
+
+pub returns-clause-takes : goal.returns-clause-takes
+returns-clause-takes g c = λ honest.
+    processing_takes (g.M.GameGraph.graph c.args.source.now) (g.T.Table.stored c.args.table.now) c.in_ok-next.next.number
+    (c.in_ok-next.ensures.next honest).place c.in_ok-next.next.kept (g.T.Table.stored c.process_next.new.table) (c.in_ok-next.ensures.marked honest) _ _ _
+    c.in_ok-next.ensures.takes (c.in_ok-lower_all.ensures.takes (c.in_ok-next.ensures.honest.0 honest))
+
+pub returns-in_err-next-clause-full : goal.returns-in_err-next-clause-full
+returns-in_err-next-clause-full g c = λ honest is.
+    let (s, place) = c.in_err-next.ensures.full honest (ap (λ (f : StepFault). Err f) (fault_full c.from_residual.result _ c.from_residual.ensures is)) in
+    let none = g.met.T.Table.full_free _ _ (full_fails _ _ c.from_residual.result _ c.from_residual.ensures c.in_err-next.ensures.left is) in
+    marking_full (g.M.GameGraph.graph c.args.source.now) (g.T.Table.stored c.args.table.now) s place _ _ c.in_err-next.ensures.takes none
+
+pub returns-in_err-lower_all-clause-full : goal.returns-in_err-lower_all-clause-full
+returns-in_err-lower_all-clause-full g c = λ honest is.
+    let none = g.met.T.Table.full_free _ _
+    (full_fails _ _ c.from_residual-in_err-lower_all.result _ c.from_residual-in_err-lower_all.ensures c.in_err-lower_all.ensures.left is) in
+    processing_full (g.M.GameGraph.graph c.args.source.now) (g.T.Table.stored c.args.table.now) c.in_ok-next.next.number
+    (c.in_ok-next.ensures.next honest).place c.in_ok-next.next.kept (g.T.Table.stored c.process_next.new.table) (c.in_ok-next.ensures.marked honest) _ _ _
+    c.in_ok-next.ensures.takes (c.in_err-lower_all.ensures.takes (c.in_ok-next.ensures.honest.0 honest)) none
+
+pub returns-then-settled-before-clause-full : goal.returns-then-settled-before-clause-full
+returns-then-settled-before-clause-full g c = λ honest is. absurd (conflict_full is)
+
+pub returns-clause-full : goal.returns-clause-full
+returns-clause-full g c = λ honest is. absurd (done_full _ is)
