@@ -5,7 +5,8 @@ use Rattle.std.proofs.lemmas.Bool.{cases_lt}
 use Rattle.rbg_game.specs.declared.roles.Player.{Player}
 use Rattle.retrograde.specs.declared.records.Record.{Record}
 use Rattle.retrograde.specs.Graph.{Graph}
-use Rattle.retrograde.specs.Stored.{Stored, processed_count}
+use Rattle.retrograde.specs.Stored.{Stored, count_below, expanded_count, processed_count}
+use Rattle.retrograde.proofs.Counting.{counts_one}
 use Rattle.retrograde.specs.Edges.{IsNextEdge}
 use Rattle.retrograde.specs.Processing.{with_processed_alone}
 use Rattle.table.specs.declared.limits.TheConstants.{PAGES_PER_ENTRY}
@@ -19,7 +20,7 @@ module _ {P : Type 0} (stored : Stored P) (s : ℕ) where
   edges_up : (n : ℕ) → edges_below stored s n ≤ edges_below stored s (suc n)
   edges_up n = go (stored.has_edge s n) (edges_below stored s n)
     where
-      go : (b : Bool) (k : ℕ) → k ≤ cond b (suc k) k
+      go : (b : Bool) (k : ℕ) → k ≤ k + cond b 1 0
       go true k = omega arith
       go false k = omega arith
 
@@ -44,13 +45,10 @@ module _ {P : Type 0} (stored : Stored P) (s : ℕ) where
 
   -- an edge counts
   edge_counts : (n : ℕ) → stored.has_edge s n ≡ true → edges_below stored s (suc n) ≡ suc (edges_below stored s n)
-  edge_counts n is = ap (λ (b : Bool). cond b (suc (edges_below stored s n)) (edges_below stored s n)) is
+  edge_counts n is = counts_one (stored.has_edge s) n is
 
 same_edges : {P : Type 0} (a b : Stored P) → a.has_edge ≡ b.has_edge → (s n : ℕ) → edges_below a s n ≡ edges_below b s n
-same_edges a b same s zero = refl
-same_edges a b same s (suc n) =
-    ap (λ (e : ℕ → ℕ → Bool). cond (e s n) (suc (edges_below a s n)) (edges_below a s n)) same
-    ∙ ap (λ (k : ℕ). cond (b.has_edge s n) (suc k) k) (same_edges a b same s n)
+same_edges a b same s n = ap (λ (e : ℕ → ℕ → Bool). count_below n (e s)) same
 
 module _ {P : Type 0} (graph : Graph P) (s : ℕ) (w : Player) (d : ℕ) (base current : Stored P) (after : Option ℕ)
     (is : current ≡ now graph s w d base (bound_of after)) (p : ℕ) (edge : IsNextEdge current s after p) where
@@ -71,10 +69,11 @@ reading_takes a b c k m takes reads fewer = omega arith
 pub lowering_takes : (a b c d k m : ℕ) → a ≤ b + PAGES_PER_ENTRY * (2 * k) → c ≡ b → c ≤ d + PAGES_PER_ENTRY * 2 → suc k ≤ m → a ≤ d + PAGES_PER_ENTRY * (2 * m)
 lowering_takes a b c d k m takes reads writes more = omega arith
 
-module _ (graph : Graph (List ℕ)) (old : Stored (List ℕ)) (s : ℕ) (place : slice_get old.order (processed_count old) ≡ Some s) where
+module _ (graph : Graph (List ℕ)) (old : Stored (List ℕ)) (s : ℕ) (place : slice_get old.order (processed_count old) ≡ Some s)
+    (all : expanded_count old ≡ length old.positions) where
   -- two entries for each position that leads to s, and one for s
   writes : WritesAtMost graph old (2 * edges_below old s (length old.positions) + 1)
-  writes = WritesAtMost.processes place refl
+  writes = WritesAtMost.processes place all refl
 
   pub marking_full : (free left : ℕ) → free ≤ left + PAGES_PER_ENTRY → left ≡ 0
       → (entries : ℕ) × WritesAtMost graph old entries × (free ≤ PAGES_PER_ENTRY * entries)

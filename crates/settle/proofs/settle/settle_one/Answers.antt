@@ -198,22 +198,31 @@ returns-then-settled-before-clause-takes g c = λ honest. tt
 
 pub returns-clause-takes : goal.returns-clause-takes
 returns-clause-takes g c = λ honest.
+    let counts = g.met.T.Table.counts_are c.args.table.now honest in
+    let all : expanded_count (g.T.Table.stored c.args.table.now) ≡ length (g.T.Table.stored c.args.table.now).positions =
+    omega (arith, ap (λ (k : Counts). k.expanded) counts, ap (λ (k : Counts). k.known) counts, c.requires.expanded) in
     processing_takes (g.M.GameGraph.graph c.args.source.now) (g.T.Table.stored c.args.table.now) c.in_ok-next.next.number
-    (c.in_ok-next.ensures.next honest).place c.in_ok-next.next.kept (g.T.Table.stored c.process_next.new.table) (c.in_ok-next.ensures.marked honest) _ _ _
+    (c.in_ok-next.ensures.next honest).place all c.in_ok-next.next.kept (g.T.Table.stored c.process_next.new.table) (c.in_ok-next.ensures.marked honest) _ _ _
     c.in_ok-next.ensures.takes (c.in_ok-lower_all.ensures.takes (c.in_ok-next.ensures.honest.0 honest))
 
 pub returns-in_err-next-clause-full : goal.returns-in_err-next-clause-full
 returns-in_err-next-clause-full g c = λ honest is.
+    let counts = g.met.T.Table.counts_are c.args.table.now honest in
+    let all : expanded_count (g.T.Table.stored c.args.table.now) ≡ length (g.T.Table.stored c.args.table.now).positions =
+    omega (arith, ap (λ (k : Counts). k.expanded) counts, ap (λ (k : Counts). k.known) counts, c.requires.expanded) in
     let (s, place) = c.in_err-next.ensures.full honest (ap (λ (f : StepFault). Err f) (fault_full c.from_residual.result _ c.from_residual.ensures is)) in
     let none = g.met.T.Table.full_free _ _ (full_fails _ _ c.from_residual.result _ c.from_residual.ensures c.in_err-next.ensures.left is) in
-    marking_full (g.M.GameGraph.graph c.args.source.now) (g.T.Table.stored c.args.table.now) s place _ _ c.in_err-next.ensures.takes none
+    marking_full (g.M.GameGraph.graph c.args.source.now) (g.T.Table.stored c.args.table.now) s place all _ _ c.in_err-next.ensures.takes none
 
 pub returns-in_err-lower_all-clause-full : goal.returns-in_err-lower_all-clause-full
 returns-in_err-lower_all-clause-full g c = λ honest is.
+    let counts = g.met.T.Table.counts_are c.args.table.now honest in
+    let all : expanded_count (g.T.Table.stored c.args.table.now) ≡ length (g.T.Table.stored c.args.table.now).positions =
+    omega (arith, ap (λ (k : Counts). k.expanded) counts, ap (λ (k : Counts). k.known) counts, c.requires.expanded) in
     let none = g.met.T.Table.full_free _ _
     (full_fails _ _ c.from_residual-in_err-lower_all.result _ c.from_residual-in_err-lower_all.ensures c.in_err-lower_all.ensures.left is) in
     processing_full (g.M.GameGraph.graph c.args.source.now) (g.T.Table.stored c.args.table.now) c.in_ok-next.next.number
-    (c.in_ok-next.ensures.next honest).place c.in_ok-next.next.kept (g.T.Table.stored c.process_next.new.table) (c.in_ok-next.ensures.marked honest) _ _ _
+    (c.in_ok-next.ensures.next honest).place all c.in_ok-next.next.kept (g.T.Table.stored c.process_next.new.table) (c.in_ok-next.ensures.marked honest) _ _ _
     c.in_ok-next.ensures.takes (c.in_err-lower_all.ensures.takes (c.in_ok-next.ensures.honest.0 honest)) none
 
 pub returns-then-settled-before-clause-full : goal.returns-then-settled-before-clause-full
