@@ -1,6 +1,6 @@
 -- Why a page is wanting: how many entries so many units of work write at most.
-use Rattle.std.specs.Prelude.{◌≡◌, ℕ, zero, suc, ◌+◌, ◌*◌, ◌<◌, ◌≤◌, List}
-use Rattle.retrograde.specs.Graph.{Graph}
+use Rattle.std.specs.Prelude.{◌≡◌, ℕ, zero, suc, ◌+◌, ◌*◌, ◌<◌, ◌≤◌, List, length, Contains}
+use Rattle.retrograde.specs.Graph.{Graph, IsReachable}
 use Rattle.retrograde.specs.Sound.{IsLocallySound}
 use Rattle.retrograde.specs.Stored.{Stored}
 use Rattle.frontier.specs.Entries.{WritesAtMost}
@@ -27,3 +27,18 @@ pub record WantsPages (graph : Graph (List ℕ)) (IsWide : List ℕ → Type 0) 
   pub next : ℕ
   pub writes : WritesAtMost graph reached next
   pub few : free ≤ PAGES_PER_ENTRY * (before + next)
+
+-- there are no more such positions than this: a list of no more has each
+pub record AreAtMost {P : Type 0} (n : ℕ) (IsSuch : P → Type 0) : Type 0 where
+  pub positions : List P
+  pub as_many : length positions ≤ n
+  pub each : (x : P) → IsSuch x → Contains positions x
+
+-- from a position that play can come to a move leads to no more positions than this, and to it from no more that play can come to
+pub record HasAtMostMoves {P : Type 0} (graph : Graph P) (n : ℕ) : Type 0 where
+  pub from : (x : P) → IsReachable graph x → AreAtMost n (λ y. graph.Successor x y)
+  pub to : (x : P) → IsReachable graph x → AreAtMost n (λ y. IsReachable graph y × graph.Successor y x)
+
+-- no more pages than so many units may take in a game with no more moves than this
+abbrev pub pages_taken : ℕ → ℕ → ℕ
+pages_taken moves units = PAGES_PER_ENTRY * (units * (3 * moves + 2))

@@ -1,3 +1,4 @@
 pub mod OneTable
 pub mod Laws
 pub mod Tables
+pub mod Pages

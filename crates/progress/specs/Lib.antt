@@ -1,4 +1,3 @@
 pub mod Enough
 pub mod InBrief
 pub mod Limits
-pub mod Pages

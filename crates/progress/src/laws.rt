@@ -21,8 +21,7 @@ ghost use Rattle.lines_kept.specs.Uses.{Uses};
 ghost use Rattle.progress.specs.Enough.{HasAtMost, IsSolved, units_asked, units_asked_in, units_in_all, units_told};
 ghost use Rattle.progress.specs.InBrief.{units_for_sittings};
 ghost use Rattle.progress.specs.Limits.{IsWithinLimits, WantsRoom};
-ghost use Rattle.progress.specs.Pages.{HasAtMostMoves};
-ghost use Rattle.table.specs.declared.limits.TheConstants.{PAGES_PER_ENTRY};
+ghost use Rattle.game_table.specs.Entries.{HasAtMostMoves, pages_taken};
 ghost use Rattle.solver.specs.declared.fault.SolverFault.TheVariants.{TableFull};
 ghost use Rattle.witness.specs.Game.{witness_text, witness_game};
 
@@ -92,7 +91,7 @@ pub fn work_wants_room_alone()
 pub fn few_moves_take_few_pages()
     ensures { (units moves : ℕ) (old new : State) (kept : Kept) (game : Game) → Step (work units) old (Refused TableFull) new
         → IsTrue old.disk.honest → old.kept ≡ Some kept → IsSound (Some kept) → Reads kept.text game
-        → HasAtMostMoves (graph_in game kept) moves → old.free ≤ PAGES_PER_ENTRY * (units * (3 * moves + 2)) }
+        → HasAtMostMoves (graph_in game kept) moves → old.free ≤ pages_taken moves units }
 {}
 
 /// The small game of `witness` is within the limits, and play comes to four of its positions at most.
