@@ -92,7 +92,8 @@ returns-in_err-kept-clause-ok g c = none_done _ c.from_residual-in_err-kept.resu
 pub returns-in_err-kept-clause-err : goal.returns-in_err-kept-clause-err
 returns-in_err-kept-clause-err g c =
     passed_on _ c.from_residual-in_err-kept.result _ c.from_residual-in_err-kept.ensures
-    (given_up_since g.met.T.Table.goes_on_then g.met.T.Table.fails_since (g.met.T.Table.stays_goes_on _ _ c.in_ok-packed.ensures.stays) (is_failed c.in_err-kept.ensures.fault))
+    (given_up_since g.met.T.Table.goes_on_then g.met.T.Table.fails_since (g.met.T.Table.stays_goes_on _ _ c.in_ok-packed.ensures.stays)
+    (is_failed c.in_err-kept.ensures.fault))
 
 pub returns-then-kept-eq0-clause-ok : goal.returns-then-kept-eq0-clause-ok
 returns-then-kept-eq0-clause-ok g c = tt
@@ -114,12 +115,14 @@ returns-in_err-set_record-clause-ok g c = none_done _ c.from_residual-in_err-set
 pub returns-in_err-set_record-clause-err : goal.returns-in_err-set_record-clause-err
 returns-in_err-set_record-clause-err g c =
     passed_on _ c.from_residual-in_err-set_record.result _ c.from_residual-in_err-set_record.ensures
-    (given_up_since g.met.T.Table.goes_on_then g.met.T.Table.fails_since (g.met.T.Table.stays_goes_on _ _ (g.met.T.Table.stays_then _ _ _ c.in_ok-packed.ensures.stays c.in_ok-kept.ensures.stays))
+    (given_up_since g.met.T.Table.goes_on_then g.met.T.Table.fails_since
+    (g.met.T.Table.stays_goes_on _ _ (g.met.T.Table.stays_then _ _ _ c.in_ok-packed.ensures.stays c.in_ok-kept.ensures.stays))
     (is_failed c.in_err-set_record.ensures.fault))
 
 pub returns-clause-ok : goal.returns-clause-ok
 returns-clause-ok g c =
-    written_then g.met.T.Table.goes_on_then (written_then g.met.T.Table.goes_on_then (is_read c.in_ok-packed.ensures.honest c.in_ok-packed.ensures.counts (g.met.T.Table.stays_goes_on _ _ c.in_ok-packed.ensures.stays))
+    written_then g.met.T.Table.goes_on_then (written_then g.met.T.Table.goes_on_then
+    (is_read c.in_ok-packed.ensures.honest c.in_ok-packed.ensures.counts (g.met.T.Table.stays_goes_on _ _ c.in_ok-packed.ensures.stays))
     (is_read c.in_ok-kept.ensures.honest c.in_ok-kept.ensures.counts (g.met.T.Table.stays_goes_on _ _ c.in_ok-kept.ensures.stays)))
     (record { honest = c.in_ok-set_record.ensures.honest; known = c.in_ok-set_record.ensures.known; ahead = c.in_ok-set_record.ensures.ahead })
 
@@ -128,7 +131,8 @@ returns-clause-err g c = tt
 
 pub returns-then-due-2-clause-ok : goal.returns-then-due-2-clause-ok
 returns-then-due-2-clause-ok g c =
-    done_then c.settle.result (written_then g.met.T.Table.goes_on_then (written_then g.met.T.Table.goes_on_then (is_read c.in_ok-packed.ensures.honest c.in_ok-packed.ensures.counts (g.met.T.Table.stays_goes_on _ _ c.in_ok-packed.ensures.stays))
+    done_then c.settle.result (written_then g.met.T.Table.goes_on_then (written_then g.met.T.Table.goes_on_then
+    (is_read c.in_ok-packed.ensures.honest c.in_ok-packed.ensures.counts (g.met.T.Table.stays_goes_on _ _ c.in_ok-packed.ensures.stays))
     (is_read c.in_ok-kept.ensures.honest c.in_ok-kept.ensures.counts (g.met.T.Table.stays_goes_on _ _ c.in_ok-kept.ensures.stays)))) c.settle.ensures.ok
 
 pub returns-then-due-2-clause-err : goal.returns-then-due-2-clause-err

@@ -19,9 +19,11 @@ returns-in_err-lower-clause-stuck g c = λ honest is.
 
 pub loop-predecessor-preserved : goal.loop-predecessor-preserved
 loop-predecessor-preserved g c = record {
-  within = let p : c.in-Some.predecessor < (g.T.Table.counted c.loop-predecessor.table).known = rw c.in-Some.is at c.in_ok-predecessor.ensures.within in omega (arith, c.loop-predecessor.invariant.written.known);
+  within = let p : c.in-Some.predecessor < (g.T.Table.counted c.loop-predecessor.table).known =
+      rw c.in-Some.is at c.in_ok-predecessor.ensures.within in omega (arith, c.loop-predecessor.invariant.written.known);
   written = written_then g.met.T.Table.goes_on_then (written_then g.met.T.Table.goes_on_then c.loop-predecessor.invariant.written
-      (is_read c.in_ok-predecessor.ensures.honest c.in_ok-predecessor.ensures.counts (g.met.T.Table.stays_goes_on _ _ c.in_ok-predecessor.ensures.stays))) c.in_ok-lower.ensures.ok;
+      (is_read c.in_ok-predecessor.ensures.honest c.in_ok-predecessor.ensures.counts
+      (g.met.T.Table.stays_goes_on _ _ c.in_ok-predecessor.ensures.stays))) c.in_ok-lower.ensures.ok;
   source = refl;
   taken = λ honest.
       let h = c.loop-predecessor.invariant.written.honest.0 honest in
@@ -92,7 +94,8 @@ returns-in_err-predecessor-clause-ok g c = none_done _ c.from_residual.result c.
 pub returns-in_err-predecessor-clause-err : goal.returns-in_err-predecessor-clause-err
 returns-in_err-predecessor-clause-err g c =
     passed_on _ c.from_residual.result _ c.from_residual.ensures
-    (given_up_since g.met.T.Table.goes_on_then g.met.T.Table.fails_since c.loop-predecessor.invariant.written.ahead (is_failed c.in_err-predecessor.ensures.fault))
+    (given_up_since g.met.T.Table.goes_on_then g.met.T.Table.fails_since c.loop-predecessor.invariant.written.ahead
+    (is_failed c.in_err-predecessor.ensures.fault))
 
 pub returns-in_err-lower-clause-ok : goal.returns-in_err-lower-clause-ok
 returns-in_err-lower-clause-ok g c = none_done _ c.from_residual-in_err-lower.result c.from_residual-in_err-lower.ensures.0

@@ -66,7 +66,8 @@ returns-in_err-set_record-clause-err g c =
 
 pub returns-clause-ok : goal.returns-clause-ok
 returns-clause-ok g c =
-    written_then g.met.T.Table.goes_on_then (record { honest = c.in_ok-push_settled.ensures.honest; known = c.in_ok-push_settled.ensures.known; ahead = c.in_ok-push_settled.ensures.ahead })
+    written_then g.met.T.Table.goes_on_then
+    (record { honest = c.in_ok-push_settled.ensures.honest; known = c.in_ok-push_settled.ensures.known; ahead = c.in_ok-push_settled.ensures.ahead })
     (record { honest = c.in_ok-set_record.ensures.honest; known = c.in_ok-set_record.ensures.known; ahead = c.in_ok-set_record.ensures.ahead })
 
 pub returns-clause-err : goal.returns-clause-err
