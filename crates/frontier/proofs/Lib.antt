@@ -6,3 +6,4 @@ pub mod Faults
 pub mod DoneLemmas
 pub mod ExpandLemmas
 pub mod Pages
+pub mod Frames

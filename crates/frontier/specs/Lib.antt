@@ -11,4 +11,5 @@ pub use Rattle.table.specs.Memory
 pub mod Causes
 pub mod Done
 pub mod Entries
+pub mod Frames
 pub mod aid

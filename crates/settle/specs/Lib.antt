@@ -1,6 +1,7 @@
 pub use Rattle.frontier.specs.Causes
 pub use Rattle.frontier.specs.Done
 pub use Rattle.frontier.specs.Entries
+pub use Rattle.frontier.specs.Frames
 pub use Rattle.retrograde.specs.Changes
 pub use Rattle.retrograde.specs.Processing
 pub use Rattle.retrograde.specs.Settles

@@ -1,12 +1,12 @@
 //! The predecessors of a processed position learn of it.
-ghost use Rattle.std.specs.Prelude.{◌≡◌, ◌↔◌, ◌+◌, ◌*◌, ◌^◌, ◌<◌, ◌≤◌, ◌⊎◌, ℕ, true, OnOk, IfErr, Err, length};
+ghost use Rattle.std.specs.Prelude.{◌≡◌, ◌+◌, ◌*◌, ◌<◌, ◌≤◌, ℕ, OnOk, IfErr, Err, length};
 ghost use Rattle.retrograde.specs.declared.records.Record.{Record};
 ghost use Rattle.retrograde.specs.Stored.{HasRecord};
 ghost use Rattle.retrograde.specs.Changes.{with_record, with_settled};
 ghost use Rattle.retrograde.specs.aid.Processing.{lower_at, lowered_below};
 ghost use Rattle.table.specs.declared.limits.TheConstants.{PAGES_PER_ENTRY};
-ghost use Rattle.frontier.specs.Causes.{IsRefusal, Leaves};
 ghost use Rattle.frontier.specs.Entries.{edges_below};
+ghost use Rattle.frontier.specs.Frames.{IsWritten, IsGivenUp};
 ghost use Rattle.frontier.specs.declared.fault.StepFault.TheVariants.{Inconsistent};
 ghost use Rattle.settle.specs.aid.Stuck.{IsStuck, IsStuckAt};
 
@@ -24,11 +24,8 @@ fn settle<T: Table>(table: &mut T, number: u32, kept: Record) -> Result<(), Step
         (T.stored table.new ≡ with_record (with_settled (T.stored table.old) number) number kept) }
     ensures full { T.is_honest table.old → result ≡ Err Inconsistent
         → length (T.stored table.old).positions ≤ length (T.stored table.old).order }
-    ensures honest { OnOk result (T.is_honest table.old ↔ T.is_honest table.new) }
-    ensures known { OnOk result ((T.counted table.new).known ≡ (T.counted table.old).known) }
-    ensures goes_on { IfErr result (λ fault. ¬ IsRefusal fault) }
-    ensures ahead { OnOk result (T.goes_on table.old table.new) }
-    ensures left { IfErr result (Leaves (T.goes_on table.old table.new) (T.fails table.old table.new)) }
+    ensures ok { OnOk result (IsWritten T.is_honest T.counted T.goes_on table.old table.new) }
+    ensures err { IfErr result (IsGivenUp T.goes_on T.fails table.old table.new) }
     ensures takes { T.free table.old ≤ T.free table.new + PAGES_PER_ENTRY * 2 }
 {
     let counts = table.counts();
@@ -54,11 +51,8 @@ fn lower<M: MoveSource, T: Table>(
         (T.stored table.new ≡ lower_at (M.graph source.now) winner distance predecessor (T.stored table.old)) }
     ensures stuck { T.is_honest table.old → result ≡ Err Inconsistent
         → (r : Record) × HasRecord (T.stored table.old) predecessor r × IsStuck (T.stored table.old) distance r }
-    ensures honest { OnOk result (T.is_honest table.old ↔ T.is_honest table.new) }
-    ensures known { OnOk result ((T.counted table.new).known ≡ (T.counted table.old).known) }
-    ensures goes_on { IfErr result (λ fault. ¬ IsRefusal fault) }
-    ensures ahead { OnOk result (T.goes_on table.old table.new) }
-    ensures left { IfErr result (Leaves (T.goes_on table.old table.new) (T.fails table.old table.new)) }
+    ensures ok { OnOk result (IsWritten T.is_honest T.counted T.goes_on table.old table.new) }
+    ensures err { IfErr result (IsGivenUp T.goes_on T.fails table.old table.new) }
     ensures takes { T.free table.old ≤ T.free table.new + PAGES_PER_ENTRY * 2 }
 {
     let packed = table.packed(predecessor)?;
@@ -93,11 +87,8 @@ pub fn lower_all<M: MoveSource, T: Table>(
         ≡ lowered_below (M.graph source.now) number winner distance (length (T.stored table.old).positions) (T.stored table.old)) }
     ensures stuck { T.is_honest table.old → result ≡ Err Inconsistent
         → (p : ℕ) × IsStuckAt (M.graph source.now) number winner distance (T.stored table.old) p }
-    ensures honest { OnOk result (T.is_honest table.old ↔ T.is_honest table.new) }
-    ensures known { OnOk result ((T.counted table.new).known ≡ (T.counted table.old).known) }
-    ensures goes_on { IfErr result (λ fault. ¬ IsRefusal fault) }
-    ensures ahead { OnOk result (T.goes_on table.old table.new) }
-    ensures left { IfErr result (Leaves (T.goes_on table.old table.new) (T.fails table.old table.new)) }
+    ensures ok { OnOk result (IsWritten T.is_honest T.counted T.goes_on table.old table.new) }
+    ensures err { IfErr result (IsGivenUp T.goes_on T.fails table.old table.new) }
     ensures takes { T.is_honest table.old → T.free table.old ≤ T.free table.new
         + PAGES_PER_ENTRY * (2 * edges_below (T.stored table.old) number (length (T.stored table.old).positions)) }
 {

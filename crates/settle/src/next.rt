@@ -1,10 +1,10 @@
 //! The settled position that waits first.
-ghost use Rattle.std.specs.Prelude.{◌≡◌, ◌↔◌, ◌+◌, ◌<◌, ◌≤◌, ℕ, IfOk, OnOk, IfErr, Err, slice_get, Some};
+ghost use Rattle.std.specs.Prelude.{◌≡◌, ◌+◌, ◌<◌, ◌≤◌, ℕ, IfOk, OnOk, IfErr, Err, slice_get, Some};
 ghost use Rattle.retrograde.specs.Stored.{IsTable, processed_count};
 ghost use Rattle.retrograde.specs.Processing.{IsNextSettled, with_processed_alone};
 ghost use Rattle.table.specs.declared.fault.TableFault.{TableFault};
 ghost use Rattle.table.specs.declared.limits.TheConstants.{PAGES_PER_ENTRY};
-ghost use Rattle.frontier.specs.Causes.{IsRefusal, Leaves};
+ghost use Rattle.frontier.specs.Frames.{IsWritten, IsGivenUp};
 ghost use Rattle.frontier.specs.declared.fault.StepFault.{StepFault};
 ghost use Rattle.frontier.specs.declared.fault.StepFault.TheVariants.{Inconsistent};
 
@@ -27,12 +27,9 @@ pub fn process_next<T: Table>(table: &mut T) -> Result<Settled, StepFault>
     ensures next { T.is_honest table.old → IfOk result (λ next. IsNextSettled (T.stored table.old) next.number next.kept next.winner) }
     ensures marked { T.is_honest table.old → IfOk result (λ next.
         T.stored table.new ≡ with_processed_alone next.number next.kept (T.stored table.old)) }
-    ensures known { OnOk result ((T.counted table.new).known ≡ (T.counted table.old).known) }
-    ensures honest { OnOk result (T.is_honest table.old ↔ T.is_honest table.new) }
     ensures consistent { T.is_honest table.old → IsTable (T.stored table.old) → result ≡ Err Inconsistent → ⊥ }
-    ensures goes_on { IfErr result (λ fault. ¬ IsRefusal fault) }
-    ensures ahead { OnOk result (T.goes_on table.old table.new) }
-    ensures left { IfErr result (Leaves (T.goes_on table.old table.new) (T.fails table.old table.new)) }
+    ensures ok { OnOk result (IsWritten T.is_honest T.counted T.goes_on table.old table.new) }
+    ensures err { IfErr result (IsGivenUp T.goes_on T.fails table.old table.new) }
     ensures takes { T.free table.old ≤ T.free table.new + PAGES_PER_ENTRY }
     ensures full { T.is_honest table.old → result ≡ Err (StepFault.Table TableFault.TableFull)
         → (s : ℕ) × (slice_get (T.stored table.old).order (processed_count (T.stored table.old)) ≡ Some s) }

@@ -53,38 +53,45 @@ module _ {P : Type 0} (none : P) (positions : List P)
 
   as_many : (n : ℕ) → length (passing n) ≡ count_below n test
   as_many zero = refl
-  as_many (suc n) = go (test n)
+  as_many (suc n) = go (test n) (as_many n)
     where
-      go : (b : Bool) → length (kept_if b (get_or positions n none) (passing n)) ≡ count_below n test + (if b then 1 else 0)
-      go true = omega (arith, as_many n)
-      go false = omega (arith, as_many n)
+      go : (b : Bool) → length (passing n) ≡ count_below n test
+          → length (kept_if b (get_or positions n none) (passing n)) ≡ count_below n test + (if b then 1 else 0)
+      go true many = omega (arith, many)
+      go false many = omega (arith, many)
 
-  each_passes : (n k : ℕ) (d : P) → k < length (passing n)
-      → (p : ℕ) × (p < n) × (test p ≡ true) × (get_or (passing n) k d ≡ get_or positions p none)
+  -- what stands in it at k
+  abbrev IsAt : ℕ → P → Type 0
+  IsAt n x = (p : ℕ) × (p < n) × (test p ≡ true) × (x ≡ get_or positions p none)
+
+  each_passes : (n k : ℕ) (d : P) → k < length (passing n) → IsAt n (get_or (passing n) k d)
   each_passes zero k d inside = absurd (omega (arith, inside))
-  each_passes (suc n) k d inside = go (test n) refl k inside
+  each_passes (suc n) k d inside = go (test n) refl k (λ j within. each_passes n j d within) inside
     where
-      go : (b : Bool) → test n ≡ b → (k : ℕ) → k < length (kept_if b (get_or positions n none) (passing n))
-          → (p : ℕ) × (p < suc n) × (test p ≡ true) × (get_or (kept_if b (get_or positions n none) (passing n)) k d ≡ get_or positions p none)
-      go true is zero inside = (n, omega arith, is, refl)
-      go true is (suc k) inside =
-          let (p, below, passes, same) = each_passes n k d (omega (arith, inside)) in (p, omega (arith, below), passes, same)
-      go false is k inside = let (p, below, passes, same) = each_passes n k d inside in (p, omega (arith, below), passes, same)
+      go : (b : Bool) → test n ≡ b → (k : ℕ) → ((j : ℕ) → j < length (passing n) → IsAt n (get_or (passing n) j d))
+          → k < length (kept_if b (get_or positions n none) (passing n)) → IsAt (suc n) (get_or (kept_if b (get_or positions n none) (passing n)) k d)
+      go true is zero before inside = (n, omega arith, is, refl)
+      go true is (suc k) before inside =
+          let (p, below, passes, same) = before k (omega (arith, inside)) in (p, omega (arith, below), passes, same)
+      go false is k before inside = let (p, below, passes, same) = before k inside in (p, omega (arith, below), passes, same)
 
   differ : (n i j : ℕ) (d : P) → n ≤ length positions → i < j → j < length (passing n) → get_or (passing n) i d ≡ get_or (passing n) j d → ⊥
   differ zero i j d there less inside same = absurd (omega (arith, inside))
-  differ (suc n) i j d there less inside same = go (test n) i j less inside same
+  differ (suc n) i j d there less inside same =
+      go (test n) i j (λ k l less within. differ n k l d (omega (arith, there)) less within) (λ l within. each_passes n l d within) less inside same
     where
-      go : (b : Bool) (i j : ℕ) → i < j → j < length (kept_if b (get_or positions n none) (passing n))
+      go : (b : Bool) (i j : ℕ) → ((k l : ℕ) → k < l → l < length (passing n) → get_or (passing n) k d ≡ get_or (passing n) l d → ⊥)
+          → ((l : ℕ) → l < length (passing n) → IsAt n (get_or (passing n) l d)) → i < j
+          → j < length (kept_if b (get_or positions n none) (passing n))
           → get_or (kept_if b (get_or positions n none) (passing n)) i d ≡ get_or (kept_if b (get_or positions n none) (passing n)) j d → ⊥
-      go true i zero less inside same = absurd (omega (arith, less))
-      go true zero (suc j) less inside same =
-          let (p, below, passes, at) = each_passes n j d (omega (arith, inside)) in
+      go true i zero before each less inside same = absurd (omega (arith, less))
+      go true zero (suc j) before each less inside same =
+          let (p, below, passes, at) = each j (omega (arith, inside)) in
           let one : n ≡ p = once n p (get_or positions n none) (slice_get-get_or positions n none (omega (arith, there)))
           (slice_get-get_or positions p none (omega (arith, there, below)) ∙ ap (λ x. Some x) (sym (same ∙ at))) in
           absurd (omega (arith, one, below))
-      go true (suc i) (suc j) less inside same = differ n i j d (omega (arith, there)) (omega (arith, less)) (omega (arith, inside)) same
-      go false i j less inside same = differ n i j d (omega (arith, there)) less inside same
+      go true (suc i) (suc j) before each less inside same = before i j (omega (arith, less)) (omega (arith, inside)) same
+      go false i j before each less inside same = before i j less inside same
 
   -- are no more than a list that has each of them
   pass_at_most : (n : ℕ) → n ≤ length positions → (ys : List P)
@@ -141,7 +148,7 @@ module _ (graph : Graph (List ℕ)) (IsWide : List ℕ → Type 0) (n : ℕ) (fe
   many_units : (old : Stored (List ℕ)) (units : ℕ) (new : Stored (List ℕ)) (entries : ℕ) → WriteAtMost graph IsWide old units new entries
       → entries ≤ units * (3 * n + 2)
   many_units old zero new entries (same, none) = omega (arith, none)
-  many_units old (suc units) new entries (mid, (before, (last, (write, (sound, (unit, (writes, sum))))))) =
+  many_units old (suc units) new entries (mid, before, last, write, sound, unit, writes, sum) =
       omega (arith, many_units old units mid before write, one_unit mid sound last writes, sum)
 
   -- too few pages are few

@@ -1,16 +1,15 @@
-use Rattle.std.proofs.Common.{◌≡◌, ◌↔◌, ◌+◌, ◌*◌, ◌-◌, ◌≤◌}
+use Rattle.std.proofs.Common.{◌≡◌, ◌+◌, ◌*◌, ◌-◌, ◌≤◌}
 use Rattle.retrograde.specs.aid.Processing.{lowered_below}
 use Rattle.table.specs.declared.limits.TheConstants.{PAGES_PER_ENTRY}
 use Rattle.frontier.specs.Entries.{edges_below}
+use Rattle.frontier.specs.Frames.{IsWritten}
 use Rattle.settle.proofs.Bounds.{bound_of}
 use Rattle.settle.proofs.lower.lower_all.Given as goal
 
 abbrev pub invariant-loop-predecessor : goal.invariant-loop-predecessor
 invariant-loop-predecessor g l = record {
   within : bound_of l.after ≤ (g.T.Table.counted l.fn.table).known;
-  known : (g.T.Table.counted l.table).known ≡ (g.T.Table.counted l.fn.table).known;
-  honest : g.T.Table.is_honest l.fn.table ↔ g.T.Table.is_honest l.table;
-  ahead : g.T.Table.goes_on l.fn.table l.table;
+  written : IsWritten g.T.Table.is_honest g.T.Table.counted g.T.Table.goes_on l.fn.table l.table;
   source : l.source ≡ l.fn.source;
   taken : g.T.Table.is_honest l.fn.table → g.T.Table.free l.fn.table
       ≤ g.T.Table.free l.table + PAGES_PER_ENTRY * (2 * edges_below (g.T.Table.stored l.fn.table) l.number (bound_of l.after));

@@ -2,7 +2,8 @@ use Rattle.std.proofs.Common.{◌≡◌, ◌∙◌, ap, subst, ℕ, Some, slice_
 use Rattle.retrograde.specs.declared.records.Counts.{Counts}
 use Rattle.settle.proofs.SettleLemmas.{settled_known}
 use Rattle.frontier.proofs.Passing.{passed_on}
-use Rattle.frontier.proofs.Faults.{none_done, none_answered, no_refusal, no_conflict, done_consistent}
+use Rattle.frontier.proofs.Faults.{none_done, none_answered, no_conflict, done_consistent}
+use Rattle.frontier.proofs.Frames.{is_read, written_then, is_failed, in_conflict, given_up_since}
 use Rattle.frontier.proofs.Pages.{never_full, conflict_full, done_full}
 use Rattle.settle.proofs.next.process_next.Goals as goal
 
@@ -19,23 +20,8 @@ returns-in_err-number-clause-next g c = λ honest. none_answered _ c.from_residu
 pub returns-in_err-number-clause-marked : goal.returns-in_err-number-clause-marked
 returns-in_err-number-clause-marked g c = λ honest. none_answered _ c.from_residual.result c.from_residual.ensures.0
 
-pub returns-in_err-number-clause-honest : goal.returns-in_err-number-clause-honest
-returns-in_err-number-clause-honest g c = none_done _ c.from_residual.result c.from_residual.ensures.0
-
-pub returns-in_err-number-clause-known : goal.returns-in_err-number-clause-known
-returns-in_err-number-clause-known g c = none_done _ c.from_residual.result c.from_residual.ensures.0
-
-pub returns-in_err-number-clause-ahead : goal.returns-in_err-number-clause-ahead
-returns-in_err-number-clause-ahead g c = none_done _ c.from_residual.result c.from_residual.ensures.0
-
 pub returns-in_err-number-clause-consistent : goal.returns-in_err-number-clause-consistent
 returns-in_err-number-clause-consistent g c = λ honest table is. no_conflict c.from_residual.result _ c.from_residual.ensures is
-
-pub returns-in_err-number-clause-goes_on : goal.returns-in_err-number-clause-goes_on
-returns-in_err-number-clause-goes_on g c = no_refusal c.from_residual.result _ c.from_residual.ensures
-
-pub returns-in_err-number-clause-left : goal.returns-in_err-number-clause-left
-returns-in_err-number-clause-left g c = passed_on _ c.from_residual.result _ c.from_residual.ensures c.in_err-number.ensures.fault
 
 pub returns-then-number-counts-clause-next : goal.returns-then-number-counts-clause-next
 returns-then-number-counts-clause-next g c = λ honest. tt
@@ -43,68 +29,20 @@ returns-then-number-counts-clause-next g c = λ honest. tt
 pub returns-then-number-counts-clause-marked : goal.returns-then-number-counts-clause-marked
 returns-then-number-counts-clause-marked g c = λ honest. tt
 
-pub returns-then-number-counts-clause-honest : goal.returns-then-number-counts-clause-honest
-returns-then-number-counts-clause-honest g c = tt
-
-pub returns-then-number-counts-clause-known : goal.returns-then-number-counts-clause-known
-returns-then-number-counts-clause-known g c = tt
-
-pub returns-then-number-counts-clause-ahead : goal.returns-then-number-counts-clause-ahead
-returns-then-number-counts-clause-ahead g c = tt
-
-pub returns-then-number-counts-clause-goes_on : goal.returns-then-number-counts-clause-goes_on
-returns-then-number-counts-clause-goes_on g c = λ never. never
-
-pub returns-then-number-counts-clause-left : goal.returns-then-number-counts-clause-left
-returns-then-number-counts-clause-left g c = g.met.T.Table.stays_goes_on _ _ c.in_ok-number.ensures.stays
-
 pub returns-in_err-kept-clause-next : goal.returns-in_err-kept-clause-next
 returns-in_err-kept-clause-next g c = λ honest. none_answered _ c.from_residual-in_err-kept.result c.from_residual-in_err-kept.ensures.0
 
 pub returns-in_err-kept-clause-marked : goal.returns-in_err-kept-clause-marked
 returns-in_err-kept-clause-marked g c = λ honest. none_answered _ c.from_residual-in_err-kept.result c.from_residual-in_err-kept.ensures.0
 
-pub returns-in_err-kept-clause-honest : goal.returns-in_err-kept-clause-honest
-returns-in_err-kept-clause-honest g c = none_done _ c.from_residual-in_err-kept.result c.from_residual-in_err-kept.ensures.0
-
-pub returns-in_err-kept-clause-known : goal.returns-in_err-kept-clause-known
-returns-in_err-kept-clause-known g c = none_done _ c.from_residual-in_err-kept.result c.from_residual-in_err-kept.ensures.0
-
-pub returns-in_err-kept-clause-ahead : goal.returns-in_err-kept-clause-ahead
-returns-in_err-kept-clause-ahead g c = none_done _ c.from_residual-in_err-kept.result c.from_residual-in_err-kept.ensures.0
-
 pub returns-in_err-kept-clause-consistent : goal.returns-in_err-kept-clause-consistent
 returns-in_err-kept-clause-consistent g c = λ honest table is. no_conflict c.from_residual-in_err-kept.result _ c.from_residual-in_err-kept.ensures is
-
-pub returns-in_err-kept-clause-goes_on : goal.returns-in_err-kept-clause-goes_on
-returns-in_err-kept-clause-goes_on g c = no_refusal c.from_residual-in_err-kept.result _ c.from_residual-in_err-kept.ensures
-
-pub returns-in_err-kept-clause-left : goal.returns-in_err-kept-clause-left
-returns-in_err-kept-clause-left g c =
-    passed_on _ c.from_residual-in_err-kept.result _ c.from_residual-in_err-kept.ensures
-    (g.met.T.Table.fails_since _ _ _ _ (g.met.T.Table.stays_goes_on _ _ c.in_ok-number.ensures.stays) c.in_err-kept.ensures.fault)
 
 pub returns-in_default-clause-next : goal.returns-in_default-clause-next
 returns-in_default-clause-next g c = λ honest. tt
 
 pub returns-in_default-clause-marked : goal.returns-in_default-clause-marked
 returns-in_default-clause-marked g c = λ honest. tt
-
-pub returns-in_default-clause-honest : goal.returns-in_default-clause-honest
-returns-in_default-clause-honest g c = tt
-
-pub returns-in_default-clause-known : goal.returns-in_default-clause-known
-returns-in_default-clause-known g c = tt
-
-pub returns-in_default-clause-ahead : goal.returns-in_default-clause-ahead
-returns-in_default-clause-ahead g c = tt
-
-pub returns-in_default-clause-goes_on : goal.returns-in_default-clause-goes_on
-returns-in_default-clause-goes_on g c = λ never. never
-
-pub returns-in_default-clause-left : goal.returns-in_default-clause-left
-returns-in_default-clause-left g c =
-    g.met.T.Table.stays_goes_on _ _ (g.met.T.Table.stays_then _ _ _ c.in_ok-number.ensures.stays c.in_ok-kept.ensures.stays)
 
 pub returns-in_err-set_record-clause-next : goal.returns-in_err-set_record-clause-next
 returns-in_err-set_record-clause-next g c =
@@ -114,50 +52,12 @@ pub returns-in_err-set_record-clause-marked : goal.returns-in_err-set_record-cla
 returns-in_err-set_record-clause-marked g c =
     λ honest. none_answered _ c.from_residual-in_err-set_record.result c.from_residual-in_err-set_record.ensures.0
 
-pub returns-in_err-set_record-clause-honest : goal.returns-in_err-set_record-clause-honest
-returns-in_err-set_record-clause-honest g c = none_done _ c.from_residual-in_err-set_record.result c.from_residual-in_err-set_record.ensures.0
-
-pub returns-in_err-set_record-clause-known : goal.returns-in_err-set_record-clause-known
-returns-in_err-set_record-clause-known g c = none_done _ c.from_residual-in_err-set_record.result c.from_residual-in_err-set_record.ensures.0
-
-pub returns-in_err-set_record-clause-ahead : goal.returns-in_err-set_record-clause-ahead
-returns-in_err-set_record-clause-ahead g c = none_done _ c.from_residual-in_err-set_record.result c.from_residual-in_err-set_record.ensures.0
-
 pub returns-in_err-set_record-clause-consistent : goal.returns-in_err-set_record-clause-consistent
 returns-in_err-set_record-clause-consistent g c =
     λ honest table is. no_conflict c.from_residual-in_err-set_record.result _ c.from_residual-in_err-set_record.ensures is
 
-pub returns-in_err-set_record-clause-goes_on : goal.returns-in_err-set_record-clause-goes_on
-returns-in_err-set_record-clause-goes_on g c = no_refusal c.from_residual-in_err-set_record.result _ c.from_residual-in_err-set_record.ensures
-
-pub returns-in_err-set_record-clause-left : goal.returns-in_err-set_record-clause-left
-returns-in_err-set_record-clause-left g c =
-    passed_on _ c.from_residual-in_err-set_record.result _ c.from_residual-in_err-set_record.ensures
-    (g.met.T.Table.fails_since _ _ _ _ (g.met.T.Table.stays_goes_on _ _ (g.met.T.Table.stays_then _ _ _ c.in_ok-number.ensures.stays c.in_ok-kept.ensures.stays))
-    c.in_err-set_record.ensures.fault)
-
-pub returns-clause-known : goal.returns-clause-known
-returns-clause-known g c =
-    c.in_ok-set_record.ensures.known ∙ ap (λ (k : Counts). k.known) (c.in_ok-kept.ensures.counts ∙ c.in_ok-number.ensures.counts)
-
-pub returns-clause-honest : goal.returns-clause-honest
-returns-clause-honest g c = (
-  λ h. c.in_ok-set_record.ensures.honest.0 (c.in_ok-kept.ensures.honest.0 (c.in_ok-number.ensures.honest.0 h)),
-  λ h. c.in_ok-number.ensures.honest.1 (c.in_ok-kept.ensures.honest.1 (c.in_ok-set_record.ensures.honest.1 h)),
-)
-
 pub returns-clause-consistent : goal.returns-clause-consistent
 returns-clause-consistent g c = λ honest table is. done_consistent _ is
-
-pub returns-clause-goes_on : goal.returns-clause-goes_on
-returns-clause-goes_on g c = tt
-
-pub returns-clause-left : goal.returns-clause-left
-returns-clause-left g c = tt
-
-pub returns-clause-ahead : goal.returns-clause-ahead
-returns-clause-ahead g c =
-    g.met.T.Table.goes_on_then _ _ _ (g.met.T.Table.stays_goes_on _ _ (g.met.T.Table.stays_then _ _ _ c.in_ok-number.ensures.stays c.in_ok-kept.ensures.stays)) c.in_ok-set_record.ensures.ahead
 
 pub returns-in_err-number-clause-takes : goal.returns-in_err-number-clause-takes
 returns-in_err-number-clause-takes g c = omega (arith, g.met.T.Table.stays_free _ _ c.in_err-number.ensures.stays)
@@ -214,3 +114,52 @@ returns-in_err-set_record-clause-full g c = λ honest is.
 
 pub returns-clause-full : goal.returns-clause-full
 returns-clause-full g c = λ honest is. absurd (done_full _ is)
+
+pub returns-in_err-number-clause-ok : goal.returns-in_err-number-clause-ok
+returns-in_err-number-clause-ok g c = none_done _ c.from_residual.result c.from_residual.ensures.0
+
+pub returns-in_err-number-clause-err : goal.returns-in_err-number-clause-err
+returns-in_err-number-clause-err g c =
+    passed_on _ c.from_residual.result _ c.from_residual.ensures (is_failed c.in_err-number.ensures.fault)
+
+pub returns-then-number-counts-clause-ok : goal.returns-then-number-counts-clause-ok
+returns-then-number-counts-clause-ok g c = tt
+
+pub returns-then-number-counts-clause-err : goal.returns-then-number-counts-clause-err
+returns-then-number-counts-clause-err g c = in_conflict (g.met.T.Table.stays_goes_on _ _ c.in_ok-number.ensures.stays)
+
+pub returns-in_err-kept-clause-ok : goal.returns-in_err-kept-clause-ok
+returns-in_err-kept-clause-ok g c = none_done _ c.from_residual-in_err-kept.result c.from_residual-in_err-kept.ensures.0
+
+pub returns-in_err-kept-clause-err : goal.returns-in_err-kept-clause-err
+returns-in_err-kept-clause-err g c =
+    passed_on _ c.from_residual-in_err-kept.result _ c.from_residual-in_err-kept.ensures
+    (given_up_since g.met.T.Table.goes_on_then g.met.T.Table.fails_since (g.met.T.Table.stays_goes_on _ _ c.in_ok-number.ensures.stays)
+    (is_failed c.in_err-kept.ensures.fault))
+
+pub returns-in_default-clause-ok : goal.returns-in_default-clause-ok
+returns-in_default-clause-ok g c = tt
+
+pub returns-in_default-clause-err : goal.returns-in_default-clause-err
+returns-in_default-clause-err g c =
+    in_conflict (g.met.T.Table.stays_goes_on _ _ (g.met.T.Table.stays_then _ _ _ c.in_ok-number.ensures.stays c.in_ok-kept.ensures.stays))
+
+pub returns-in_err-set_record-clause-ok : goal.returns-in_err-set_record-clause-ok
+returns-in_err-set_record-clause-ok g c = none_done _ c.from_residual-in_err-set_record.result c.from_residual-in_err-set_record.ensures.0
+
+pub returns-in_err-set_record-clause-err : goal.returns-in_err-set_record-clause-err
+returns-in_err-set_record-clause-err g c =
+    passed_on _ c.from_residual-in_err-set_record.result _ c.from_residual-in_err-set_record.ensures
+    (given_up_since g.met.T.Table.goes_on_then g.met.T.Table.fails_since
+    (g.met.T.Table.stays_goes_on _ _ (g.met.T.Table.stays_then _ _ _ c.in_ok-number.ensures.stays c.in_ok-kept.ensures.stays))
+    (is_failed c.in_err-set_record.ensures.fault))
+
+pub returns-clause-ok : goal.returns-clause-ok
+returns-clause-ok g c =
+    written_then g.met.T.Table.goes_on_then (written_then g.met.T.Table.goes_on_then
+    (is_read c.in_ok-number.ensures.honest c.in_ok-number.ensures.counts (g.met.T.Table.stays_goes_on _ _ c.in_ok-number.ensures.stays))
+    (is_read c.in_ok-kept.ensures.honest c.in_ok-kept.ensures.counts (g.met.T.Table.stays_goes_on _ _ c.in_ok-kept.ensures.stays)))
+    (record { honest = c.in_ok-set_record.ensures.honest; known = c.in_ok-set_record.ensures.known; ahead = c.in_ok-set_record.ensures.ahead })
+
+pub returns-clause-err : goal.returns-clause-err
+returns-clause-err g c = tt
