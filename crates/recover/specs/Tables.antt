@@ -14,6 +14,7 @@ use Rattle.rbg_read.specs.declared.fault.GameFault.TheVariants as game_fault
 use Rattle.legal_moves.specs.Moves.{IsSuccessor, start_of, score}
 use Rattle.legal_moves.specs.Searches.{IsWide}
 use Rattle.legal_moves.specs.Sources.{leader}
+use Rattle.game_table.specs.Entries.{HasAtMostMoves, pages_taken}
 use Rattle.retrograde.specs.Graph.{Graph, IsReachable}
 use Rattle.retrograde.specs.Values.{WonIn, Drawn}
 use Rattle.retrograde.specs.declared.records.Counts.{Counts}
@@ -174,16 +175,23 @@ abbrev pub IsLeftToDo : Option BriefTable → Type 0
 IsLeftToDo None = ⊥
 IsLeftToDo (Some table) = ¬ IsFinished table.view
 
--- why `work` may be refused by a table on an honest disk; of E7 it is not said how few pages are free, and E1 and E8 are not said
-abbrev pub RefusesWork : Option BriefTable → SolverFault → Type 0
-RefusesWork table Disk = Unit {0}
-RefusesWork table OutOfMemory = Unit {0}
-RefusesWork table TableFull = IsLeftToDo table
-RefusesWork table TooManyPositions = ComesToMore (2 ^ 24) table
-RefusesWork table NoGame = table ≡ None
-RefusesWork table (KeeperChooses number) = ComesTo table KeeperHasChoice
-RefusesWork table TooWide = ComesTo table IsWide
-RefusesWork table _ = ⊥
+-- a game is loaded, and no more pages are free than 49 * (3 * moves + 2) for each unit, where no more than so many moves lead from a position
+-- that play can come to, or to one
+abbrev pub IsShort : ℕ → ℕ → Option BriefTable → Type 0
+IsShort units free None = ⊥
+IsShort units free (Some table) =
+    (game : Game) (moves : ℕ) → TextSays table.text game → HasAtMostMoves (play_of table.goal game) moves → free ≤ pages_taken moves units
+
+-- why `work` of so many units may be refused by a table with so many free pages on an honest disk; E1 and E8 are not said
+abbrev pub RefusesWork : ℕ → ℕ → Option BriefTable → SolverFault → Type 0
+RefusesWork units free table Disk = Unit {0}
+RefusesWork units free table OutOfMemory = Unit {0}
+RefusesWork units free table TableFull = IsLeftToDo table × IsShort units free table
+RefusesWork units free table TooManyPositions = ComesToMore (2 ^ 24) table
+RefusesWork units free table NoGame = table ≡ None
+RefusesWork units free table (KeeperChooses number) = ComesTo table KeeperHasChoice
+RefusesWork units free table TooWide = ComesTo table IsWide
+RefusesWork units free table _ = ⊥
 
 -- a game is loaded, and no known position of it has this number
 abbrev pub HasNoNumber : ℕ → Option BriefTable → Type 0
@@ -240,12 +248,12 @@ pub data Request : Type 0 where
   of_text : Request
   of_all : Request
 
--- why that may be refused, by a table of this many pages
-abbrev pub MayRefuse : Request → ℕ → Option BriefTable → SolverFault → Type 0
-MayRefuse (to_do (load text goal)) pages table fault = RefusesText text pages table fault
-MayRefuse (to_do (work units)) pages table fault = RefusesWork table fault
-MayRefuse (of_number number) pages table fault = RefusesNumber number table fault
-MayRefuse (of_line number) pages table fault = RefusesLine number table fault
-MayRefuse (of_moves number) pages table fault = RefusesMoves number table fault
-MayRefuse of_text pages table fault = RefusesPosition table fault
-MayRefuse of_all pages table fault = RefusesAudit table fault
+-- why that may be refused, by a table of this many pages, of which so many are free
+abbrev pub MayRefuse : Request → ℕ → ℕ → Option BriefTable → SolverFault → Type 0
+MayRefuse (to_do (load text goal)) pages free table fault = RefusesText text pages table fault
+MayRefuse (to_do (work units)) pages free table fault = RefusesWork units free table fault
+MayRefuse (of_number number) pages free table fault = RefusesNumber number table fault
+MayRefuse (of_line number) pages free table fault = RefusesLine number table fault
+MayRefuse (of_moves number) pages free table fault = RefusesMoves number table fault
+MayRefuse of_text pages free table fault = RefusesPosition table fault
+MayRefuse of_all pages free table fault = RefusesAudit table fault

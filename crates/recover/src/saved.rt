@@ -66,6 +66,10 @@ pub trait SavedTable {
     fn capacity(&self) -> u32
         ensures { result ≡ calls.pages self.now };
 
+    /// How many of them are free.
+    fn free_pages(&self) -> u32
+        ensures { result ≡ calls.free self.now };
+
     /// Who wins the position with this number, and in how many moves.
     fn value(&mut self, number: u32) -> Result<Value, SolverFault>
         ensures asked { IsQuestion calls (of_number number) self.old self.new result }
@@ -186,6 +190,10 @@ impl<F: GameFile> SavedTable for FileSolver<F> {
 
     fn capacity(&self) -> u32 {
         FileSolver::capacity(self)
+    }
+
+    fn free_pages(&self) -> u32 {
+        FileSolver::free_pages(self)
     }
 
     fn value(&mut self, number: u32) -> Result<Value, SolverFault> {
