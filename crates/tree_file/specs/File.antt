@@ -1,7 +1,7 @@
 -- What is stated of a table's file on trees.
 use Rattle.std.specs.Prelude.{◌≡◌, ℕ, ◌≤◌, ◌<◌, false, List, length, Option, None, Some, IsTrue}
 use Rattle.page_store.specs.declared.marks.Mark.TheVariants.{Free}
-use Rattle.page_store.specs.Marks.{mark}
+use Rattle.page_store.specs.Marks.{free_count, mark}
 use Rattle.page_store.specs.Spelling.{IsCalm}
 use Rattle.page_store.specs.Store.{IsSoundStore, reads}
 use Rattle.game_file.specs.Fields.{commits_in, goal_numbered, layout_in, SaysPages}
