@@ -108,7 +108,7 @@ pub trait GameFile: Table {
     /// were used since, nor those that are kept for whoever reads an earlier commit still. It takes no memory and
     /// always answers.
     fn free_pages(&self) -> u32
-        ensures { result ≡ (state self.now).free };
+        ensures { result ≡ Self.free self.now };
 
     /// Commits the table of a game that is loaded now, its start and no more, where none was, with this packing and goal: S6 if the start
     /// has no bytes, and E9, E1, E7, E8. After a refusal there is still none, but that after E1 in a write or a sync the file is closed,
@@ -162,7 +162,7 @@ pub trait GameFile: Table {
         ensures back { (was : Self) → is_whole was → Self.goes_on was self.old
             → is_whole self.new × IsNothingPut stores (state was) (state self.new) × ((state self.new).closed ≡ (state was).closed) }
         ensures freed { (was : Self) → is_whole was → (Self.goes_on was self.old ⊎ ((fault : TableFault) × Self.fails was self.old fault))
-            → (state self.new).free ≡ (state was).free }
+            → Self.free self.new ≡ Self.free was }
         ensures failed { (was : Self) (fault : TableFault) → is_whole was → Self.fails was self.old fault
             → is_whole self.new × IsNothingPut stores (state was) (state self.new) × FileTableCause (state was) (state self.new) fault }
         ensures still { (was : Self) (fault : TableFault) → is_whole was → Self.fails was self.old fault → fault ≢ TableFault.Disk
@@ -232,15 +232,12 @@ pub trait GameFile: Table {
     /// So they do where one is not answered.
     ghost fails_lasts: { (old new : Self) (fault : TableFault) → Self.fails old new fault → lasts old new };
 
-    /// As many pages are free as the table says.
-    ghost free_is: { (file : Self) → (state file).free ≡ Self.free file };
-
     /// The page of the root is never free.
-    ghost whole_free: { (file : Self) → is_whole file → (state file).free < (state file).capacity };
+    ghost whole_free: { (file : Self) → is_whole file → Self.free file < (state file).capacity };
 
     /// Each other page of an open file that keeps no game is.
     ghost empty_free: { (file : Self) → is_whole file → (state file).closed ≡ false → (state file).kept ≡ None
-        → (state file).capacity ≡ (state file).free + 1 };
+        → (state file).capacity ≡ Self.free file + 1 };
 
     /// No file has more than 16,777,216 positions.
     ghost few: { (file : Self) → (Self.counted file).known ≤ 2 ^ 24 };

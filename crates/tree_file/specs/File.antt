@@ -1,7 +1,7 @@
 -- What is stated of a table's file on trees.
 use Rattle.std.specs.Prelude.{◌≡◌, ℕ, ◌≤◌, ◌<◌, false, List, length, Option, None, Some, IsTrue}
 use Rattle.page_store.specs.declared.marks.Mark.TheVariants.{Free}
-use Rattle.page_store.specs.Marks.{free_count, mark}
+use Rattle.page_store.specs.Marks.{mark}
 use Rattle.page_store.specs.Spelling.{IsCalm}
 use Rattle.page_store.specs.Store.{IsSoundStore, reads}
 use Rattle.game_file.specs.Fields.{commits_in, goal_numbered, layout_in, SaysPages}
@@ -44,7 +44,6 @@ state_of file = record {
   disk = file.work.store.disk;
   failures = file.work.store.failures;
   capacity = length file.work.store.marks;
-  free = free_count file.work.store.marks;
   closed = file.work.store.closed;
   commits = commits_in file.work.store.root;
   counts = counts_told file.game;

@@ -186,8 +186,6 @@ impl<P: PagesOnDisk, const LAYOUT: u32> GameFile for TreeFile<P, LAYOUT> {
 
     ghost fails_lasts = { λ old new fault it. works_keep_holds (file_in old).work.store (file_in new).work.store it.work.works };
 
-    ghost free_is = { λ t. refl };
-
     ghost whole_free = { λ t whole. whole_free LAYOUT (file_in t) whole };
 
     ghost empty_free = { λ t whole is_open none. empty_free LAYOUT (file_in t) whole none };

@@ -1,4 +1,4 @@
-use Rattle.std.proofs.Common.{◌≡◌, ℕ, ◌<◌, ◌≤◌, refl, sym, ◌∙◌, ap, subst, arith, Option, Err}
+use Rattle.std.proofs.Common.{◌≡◌, ℕ, ◌<◌, ◌≤◌, refl, ◌∙◌, ap, subst, arith, Option, Err}
 use Rattle.frontier.specs.declared.fault.StepFault.{StepFault}
 use Rattle.legal_moves.specs.declared.compiled.Compiled.{Compiled}
 use Rattle.solver.specs.State.{IsSourceOf}
@@ -6,7 +6,7 @@ use Rattle.solver.proofs.Loading.{same_source, source_of_text}
 use Rattle.solver.proofs.Passing.{passed_on, passed_as, gives_none, not_refused}
 use Rattle.solver.proofs.Refusing.{nothing_done}
 use Rattle.solver.proofs.Turning.{ahead_then}
-use Rattle.solver.proofs.Working.{kept_there, works_on, stops_on, unfinished_on, wants_on, worked_done, kept_sound, not_kept, idle_done, given_up, left_so, work_refused, asked_work}
+use Rattle.solver.proofs.Working.{kept_there, works_on, stops_on, unfinished_on, worked_done, kept_sound, not_kept, idle_done, given_up, left_so, work_refused, asked_work}
 use Rattle.solver.proofs.commands.FileSolver.work.Goals as goal
 
 -- no unit is done
@@ -37,9 +37,6 @@ returns-in-Err-clause-refused g c = λ ready.
     (λ honest sound inconsistent.
     let stored = g.met.F.GameFile.whole_stored file k ready.0 honest is in
     c.in-Err.ensures.consistent stored.0 (rw stored.1 sound) (ap (λ (f : StepFault). Err f) inconsistent))
-    (λ full honest. let stored = g.met.F.GameFile.whole_stored file k ready.0 honest is in
-    wants_on c.in_ok-source.source.now k _ stored.1 _ _ _ _ c.count.ensures.is (sym (g.met.F.GameFile.free_is file))
-    (λ sound. c.in-Err.ensures.full stored.0 sound (ap (λ (f : StepFault). Err f) full)))
     c.in-Err.ensures.left c.in_ok-source.ensures.open given.1
     (λ ahead. (c.discard.ensures.back file ready.0 ahead).2) (λ f fails other. c.discard.ensures.still file f ready.0 fails other))
 
