@@ -10,7 +10,8 @@ use Rattle.page_store.specs.Store.{Store}
 use Rattle.page_store.specs.aid.Counting.{one_fewer}
 
 -- where each page that was free is still, no fewer are
-none_fewer : (old new : List Mark) → length new ≡ length old → ((p : ℕ) → free_one (mark old p) ≤ free_one (mark new p)) → free_count old ≤ free_count new
+none_fewer : (old new : List Mark) → length new ≡ length old → ((p : ℕ) → free_one (mark old p) ≤ free_one (mark new p))
+    → free_count old ≤ free_count new
 none_fewer [] new long each = omega arith
 none_fewer (m ∷ old) [] long each = absurd (omega (arith, long))
 none_fewer (m ∷ old) (n ∷ new) long each = omega (arith, each 0, none_fewer old new (omega (arith, long)) (λ p. each (suc p)))
@@ -36,8 +37,9 @@ let_go_takes_none {at} {old} {new} marked = none_fewer old new marked.same_lengt
     ]
 
 -- a page that is handed out is one, and a refusal takes none
-pub new_page_takes_one : (old new : Store) (r : Result ℕ PageFault) → IfOk r (λ p. IsMarked p Fresh old.marks new.marks) → IfOk r (λ p. mark old.marks p ≡ Free)
-    → IfOk r (λ p. p < length old.marks) → OnErr r (new ≡ old) → free_count old.marks ≤ free_count new.marks + 1
+pub new_page_takes_one : (old new : Store) (r : Result ℕ PageFault) → IfOk r (λ p. IsMarked p Fresh old.marks new.marks)
+    → IfOk r (λ p. mark old.marks p ≡ Free) → IfOk r (λ p. p < length old.marks) → OnErr r (new ≡ old)
+    → free_count old.marks ≤ free_count new.marks + 1
 new_page_takes_one old new (Ok p) marked free within refused =
     let fewer = one_fewer old.marks new.marks p marked.same_length within free marked.is marked.others in
     omega (arith, fewer)

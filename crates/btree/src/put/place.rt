@@ -1,5 +1,6 @@
 //! A page is written in the place of another.
-ghost use Rattle.std.specs.Prelude.{◌≡◌, ◌≢◌, ◌≤◌, ◌<◌, ◌+◌, ◌*◌, [], ◌∷◌, ℕ, false, length, OnOk, IfOk, IfErr, IsTrue};
+ghost use Rattle.std.specs.Prelude.{◌≡◌, ◌≢◌, ◌≤◌, ◌<◌, ◌+◌, ◌*◌, [], ◌∷◌, ℕ, false, length};
+ghost use Rattle.std.specs.Prelude.{OnOk, IfOk, IfErr, IsTrue};
 ghost use Rattle.page_store.specs.Causes.{PageWriteCause};
 ghost use Rattle.page_store.specs.declared.marks.Mark.TheVariants.{Fresh};
 ghost use Rattle.page_store.specs.Marks.{mark as mark_of, free_count};
