@@ -65,7 +65,7 @@ pub fn record<F: GameFile>(file: &mut F, number: u32) -> Result<Record, TableFau
 
 /// `asked` of `SavedTable::value`, and of that the cause of a refusal.
 pub fn saved_value<S: SavedTable>(table: &mut S, asked: u32) -> Result<Value, SolverFault>
-    ensures { OfTable S.calls table.old (λ t. IfErr result (MayRefuse (of_number asked) (S.calls.pages table.old) (S.calls.free table.old) t)) }
+    ensures { OfTable S.calls table.old (λ t. IfErr result (MayRefuse (of_number asked) (S.calls.pages table.old) t)) }
 {
     table.value(asked)
 }

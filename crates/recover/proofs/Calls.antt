@@ -81,7 +81,7 @@ module _ {S : Type 0} (Stores : ℕ → Layout) (state : S → State) (ready : S
   -- a question
   pub is_question : {T : Type 0} (result : Result T SolverFault) (Cause : SolverFault → Type 0) (request : Request)
       → ((table : Option BriefTable) → IsToldBy (state was).kept table → IsTrue (state was).disk.honest → (state was).closed ≡ false
-      → (fault : SolverFault) → Cause fault → MayRefuse request (state was).capacity (state was).free table fault)
+      → (fault : SolverFault) → Cause fault → MayRefuse request (state was).capacity table fault)
       → (ready was → ready is) → (ready was → IsAsked Stores (state was) (state is))
       → ((state was).closed ≡ true → IsErrOf result Closed × (is ≡ was)) → (Cause DiskFailed → Grew (state was).failures (state is).failures)
       → (ready was → IfErr result Cause) → IsQuestion (calls_of Stores state ready) request was is result
@@ -96,7 +96,7 @@ module _ {S : Type 0} (Stores : ℕ → Layout) (state : S → State) (ready : S
     };
     reply = is_reply result Cause (λ closed. (shut closed).0) so cause;
     cause = λ table (here, is_open, told) honest.
-        each_err result Cause (λ fault. MayRefuse request (state was).capacity (state was).free table fault) (in_brief table (told honest) honest is_open) (cause here);
+        each_err result Cause (λ fault. MayRefuse request (state was).capacity table fault) (in_brief table (told honest) honest is_open) (cause here);
   }
 
   -- a command with its reply

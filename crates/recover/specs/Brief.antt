@@ -100,11 +100,10 @@ OrBroken Such Broken old new = Such ⊎ (Broken × Grew old.failed_writes new.fa
 
 -- the calls of a trait, as relations over what they are made on
 pub record Calls (S : Type 0) : Type 1 where
-  -- its disk, through time, how often that has failed, how many pages the table has, and how many of them are free
+  -- its disk, through time, how often that has failed, and how many pages the table has
   pub disk : S → Disk
   pub failures : S → ℕ
   pub pages : S → ℕ
-  pub free : S → ℕ
   -- it came of `create` or `open`, and of calls since then
   pub ready : S → Type 0
   -- a write or a sync has failed in a call on it
@@ -142,7 +141,7 @@ module _ {S : Type 0} (calls : Calls S) where
   pub record IsQuestion {T : Type 0} (request : Request) (was is : S) (result : Result T SolverFault) : Type 0 where
     pub asked : calls.asked was is
     pub reply : IsReply was is result
-    pub cause : OfTable was (λ table. IfErr result (MayRefuse request (calls.pages was) (calls.free was) table))
+    pub cause : OfTable was (λ table. IfErr result (MayRefuse request (calls.pages was) table))
 
   -- a command is done as its reply says; or it is refused, or a write or a sync has failed in it
   abbrev pub HasDone : Command → Reply → S → S → Type 0
@@ -158,7 +157,7 @@ module _ {S : Type 0} (calls : Calls S) where
     pub closed : calls.shut was → reply ≡ Refused Closed
     pub failed : calls.ready was → reply ≡ Refused DiskFailed → Grew (calls.failures was) (calls.failures is)
     pub cause : (fault : SolverFault) → reply ≡ Refused fault
-        → OfTable was (λ table. MayRefuse (to_do command) (calls.pages was) (calls.free was) table fault)
+        → OfTable was (λ table. MayRefuse (to_do command) (calls.pages was) table fault)
 
   -- what holds of the calls: each goes on from the disk that it was given; what is shut refuses each command and stays
   -- as it is; a table begins as the empty one, a command makes of it what its answer says, any other call leaves it; it

@@ -182,16 +182,21 @@ IsShort units free None = ⊥
 IsShort units free (Some table) =
     (game : Game) (moves : ℕ) → TextSays table.text game → HasAtMostMoves (play_of table.goal game) moves → free ≤ pages_taken moves units
 
--- why `work` of so many units may be refused by a table with so many free pages on an honest disk; E1 and E8 are not said
-abbrev pub RefusesWork : ℕ → ℕ → Option BriefTable → SolverFault → Type 0
-RefusesWork units free table Disk = Unit {0}
-RefusesWork units free table OutOfMemory = Unit {0}
-RefusesWork units free table TableFull = IsLeftToDo table × IsShort units free table
-RefusesWork units free table TooManyPositions = ComesToMore (2 ^ 24) table
-RefusesWork units free table NoGame = table ≡ None
-RefusesWork units free table (KeeperChooses number) = ComesTo table KeeperHasChoice
-RefusesWork units free table TooWide = ComesTo table IsWide
-RefusesWork units free table _ = ⊥
+-- so of a command that works
+abbrev pub IsShortFor : Command → ℕ → Option BriefTable → Type 0
+IsShortFor (load text goal) free table = Unit {0}
+IsShortFor (work units) free table = IsShort units free table
+
+-- why `work` may be refused by a table on an honest disk; how few pages are free at E7, the call says besides, and E1 and E8 are not said
+abbrev pub RefusesWork : Option BriefTable → SolverFault → Type 0
+RefusesWork table Disk = Unit {0}
+RefusesWork table OutOfMemory = Unit {0}
+RefusesWork table TableFull = IsLeftToDo table
+RefusesWork table TooManyPositions = ComesToMore (2 ^ 24) table
+RefusesWork table NoGame = table ≡ None
+RefusesWork table (KeeperChooses number) = ComesTo table KeeperHasChoice
+RefusesWork table TooWide = ComesTo table IsWide
+RefusesWork table _ = ⊥
 
 -- a game is loaded, and no known position of it has this number
 abbrev pub HasNoNumber : ℕ → Option BriefTable → Type 0
@@ -248,12 +253,12 @@ pub data Request : Type 0 where
   of_text : Request
   of_all : Request
 
--- why that may be refused, by a table of this many pages, of which so many are free
-abbrev pub MayRefuse : Request → ℕ → ℕ → Option BriefTable → SolverFault → Type 0
-MayRefuse (to_do (load text goal)) pages free table fault = RefusesText text pages table fault
-MayRefuse (to_do (work units)) pages free table fault = RefusesWork units free table fault
-MayRefuse (of_number number) pages free table fault = RefusesNumber number table fault
-MayRefuse (of_line number) pages free table fault = RefusesLine number table fault
-MayRefuse (of_moves number) pages free table fault = RefusesMoves number table fault
-MayRefuse of_text pages free table fault = RefusesPosition table fault
-MayRefuse of_all pages free table fault = RefusesAudit table fault
+-- why that may be refused, by a table of this many pages
+abbrev pub MayRefuse : Request → ℕ → Option BriefTable → SolverFault → Type 0
+MayRefuse (to_do (load text goal)) pages table fault = RefusesText text pages table fault
+MayRefuse (to_do (work units)) pages table fault = RefusesWork table fault
+MayRefuse (of_number number) pages table fault = RefusesNumber number table fault
+MayRefuse (of_line number) pages table fault = RefusesLine number table fault
+MayRefuse (of_moves number) pages table fault = RefusesMoves number table fault
+MayRefuse of_text pages table fault = RefusesPosition table fault
+MayRefuse of_all pages table fault = RefusesAudit table fault

@@ -330,6 +330,10 @@ commit_not_full was now old new file.OutOfMemory cause is = absurd cause
 commit_not_full was now old new file.Closed cause is = let no : solver.Closed ≡ solver.TableFull = is in cc
 commit_not_full was now old new file.Inconsistent cause is = let no : solver.Inconsistent ≡ solver.TableFull = is in cc
 
+-- no question is refused for want of a page
+pub asked_not_full : (state : State) (fault : SolverFault) → AskCause state state fault → fault ≡ solver.TableFull → ⊥
+asked_not_full state fault cause is = subst (λ (f : SolverFault). AskCause state state f) is cause
+
 -- what forbids a question forbids work
 pub asked_work : (units : ℕ) (state : State) (fault : SolverFault) → AskCause state state fault → WorkCause units state state fault
 asked_work units state solver.Disk cause = cause

@@ -99,6 +99,11 @@ IsShortOfPages units free (Some kept) =
     (game : Game) → Reads kept.text game → IsLocallySound (graph_in game kept) (wide_in game kept) kept.table
     → WantsPages (graph_in game kept) (wide_in game kept) kept.table units free
 
+-- so of a command that works
+abbrev pub IsCommandShort : Command → ℕ → Option Kept → Type 0
+IsCommandShort (load text goal) free kept = Unit {0}
+IsCommandShort (work units) free kept = IsShortOfPages units free kept
+
 -- why `work` is refused; how few pages are free then, `full` of the call says
 abbrev pub WorkCause : ℕ → State → State → SolverFault → Type 0
 WorkCause units old new Disk = Grew old.failures new.failures

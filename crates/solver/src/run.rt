@@ -18,6 +18,8 @@ impl<F: GameFile> FileSolver<F> {
         ensures turn { IsReady self.old
             → IsTurnWithCause F.stores (command_of command.now) result (state self.old) (state self.new) }
         ensures closed { (state self.old).closed ≡ true → (result ≡ Reply.Refused SolverFault.Closed) × (self.new ≡ self.old) }
+        ensures full { IsReady self.old → IsTrue (state self.old).disk.honest → result ≡ Reply.Refused SolverFault.TableFull
+            → IsCommandShort (command_of command.now) (F.free self.old.file) (state self.old).kept }
         ensures sound { IsReady self.old → IsTrue (state self.old).disk.honest
             → IsSound (state self.old).kept
             → IsSound (state self.new).kept }

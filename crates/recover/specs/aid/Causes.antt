@@ -24,12 +24,12 @@ use Rattle.game_table.specs.aid.Pages.{wants_few}
 use Rattle.game_file.specs.Kept.{Kept}
 use Rattle.game_file.specs.State.{State}
 use Rattle.solver.specs.Held.{IsSound, graph_in, wide_in}
-use Rattle.solver.specs.Machine.{Command, load, work, LoadCause, WorkCause, IsUnfinished, IsShortOfPages, StopsAt, HasReason}
+use Rattle.solver.specs.Machine.{Command, load, work, LoadCause, WorkCause, IsUnfinished, IsShortOfPages, IsCommandShort, StopsAt, HasReason}
 use Rattle.solver.specs.declared.fault.SolverFault.{SolverFault}
 use Rattle.solver.specs.declared.fault.SolverFault.TheVariants.{Disk, NotATable, AlreadyATable, Damaged, OldLayout, TooSmall, TableFull, OutOfMemory, Closed, Game as BadGame}
 use Rattle.solver.specs.declared.fault.SolverFault.TheVariants.{NoGame, GameAlready, KeeperChooses, TooWide, TooManyPositions, Inconsistent, NoSuchPosition, NotSettled, ListingsUsedUp, BadPosition}
 use Rattle.solver.specs.declared.replies.Reply.TheVariants.{Refused}
-use Rattle.recover.specs.Tables.{BriefTable, play_of, ComesTo, ComesToMore, KeeperHasChoice, IsLeftToDo, IsShort, RefusesText, RefusesWork, to_do, MayRefuse}
+use Rattle.recover.specs.Tables.{BriefTable, play_of, ComesTo, ComesToMore, KeeperHasChoice, IsLeftToDo, IsShort, IsShortFor, RefusesText, RefusesWork, to_do, MayRefuse}
 use Rattle.recover.specs.aid.Telling.{IsToldBy, brief_of, brief_is_so, finished_up}
 use Rattle.recover.specs.aid.FewMoves.{few_down}
 use Rattle.recover.specs.aid.Limit.{comes_to_more}
@@ -117,7 +117,7 @@ left_told (Some kept) table (sound, is) left =
     subst (λ (t : Option BriefTable). IsLeftToDo t) (sym is) (λ finished. left sound (finished_up kept sound finished))
 
 -- too few pages are free for so many units, in both
-short_told : (kept : Option Kept) (table : Option BriefTable) → IsToldBy kept table → (units free : ℕ) → IsShortOfPages units free kept
+pub short_told : (kept : Option Kept) (table : Option BriefTable) → IsToldBy kept table → (units free : ℕ) → IsShortOfPages units free kept
     → IsShort units free table
 unfolding brief_of
 short_told None table told units free short = absurd short
@@ -128,6 +128,12 @@ short_told (Some kept) table ((game, is_read, local), is) units free short =
     let few_of_it : HasAtMostMoves (play_of kept.goal game) moves = subst (λ (g : Game). HasAtMostMoves (play_of kept.goal g) moves) one few in
     wants_few (graph_in game kept) (wide_in game kept) moves (few_down kept.packing kept.goal game (read_sound kept.text game is_read) moves few_of_it)
     kept.table units free (short game is_read local))
+
+-- so for a command
+pub short_for_told : (command : Command) (kept : Option Kept) (table : Option BriefTable) → IsToldBy kept table → (free : ℕ)
+    → IsCommandShort command free kept → IsShortFor command free table
+short_for_told (load text goal) kept table told free short = tt
+short_for_told (work units) kept table told free short = short_told kept table told units free short
 
 pub open_not_shut : (closed : Bool) → closed ≡ false → closed ≡ true → ⊥
 open_not_shut closed is_open shut = let both : false ≡ true = sym is_open ∙ shut in cc
@@ -155,15 +161,14 @@ module _ (old new : State) (table : Option BriefTable) (told : IsToldBy old.kept
   why_load text ListingsUsedUp cause = absurd cause
   why_load text BadPosition cause = absurd cause
 
-  why_work : (units : ℕ) (fault : SolverFault) → WorkCause units old new fault → RefusesWork units old.free table fault
+  why_work : (units : ℕ) (fault : SolverFault) → WorkCause units old new fault → RefusesWork table fault
   why_work units Disk cause = tt
   why_work units NotATable cause = absurd cause
   why_work units AlreadyATable cause = absurd cause
   why_work units Damaged cause = absurd (cause honest)
   why_work units OldLayout cause = absurd cause
   why_work units TooSmall cause = absurd cause
-  why_work units TableFull cause =
-      let (left, short) = cause honest in (left_told old.kept table told left, short_told old.kept table told units old.free short)
+  why_work units TableFull cause = left_told old.kept table told (cause honest)
   why_work units OutOfMemory cause = tt
   why_work units Closed cause = absurd (open_not_shut old.closed is_open cause)
   why_work units (BadGame fault) cause = absurd cause
@@ -179,6 +184,6 @@ module _ (old new : State) (table : Option BriefTable) (told : IsToldBy old.kept
   why_work units BadPosition cause = absurd cause
 
   -- why a command is refused, in brief
-  pub why_in_brief : (command : Command) (fault : SolverFault) → HasReason (Refused fault) command old new → MayRefuse (to_do command) old.capacity old.free table fault
+  pub why_in_brief : (command : Command) (fault : SolverFault) → HasReason (Refused fault) command old new → MayRefuse (to_do command) old.capacity table fault
   why_in_brief (load text goal) fault cause = why_load text fault cause
   why_in_brief (work units) fault cause = why_work units fault cause

@@ -208,7 +208,6 @@ module _ {S : Type 0} (Stores : ℕ → Layout) (state : S → State) (ready : S
     disk = λ s. (state s).disk;
     failures = λ s. (state s).failures;
     pages = λ s. (state s).capacity;
-    free = λ s. (state s).free;
     ready = ready;
     shut = λ s. (state s).closed ≡ true;
     tells = tells_of state ready;
