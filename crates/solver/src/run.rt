@@ -2,6 +2,7 @@
 ghost use Rattle.std.specs.Prelude.{◌≡◌, ◌+◌, ◌++◌, true, false, List, [], length, map, IsTrue, IsOk, OnOk, OnErr, IfErr};
 ghost use Rattle.solver.specs.Headline.{LeavesAPrefix};
 ghost use Rattle.solver.specs.Held.{IsSound};
+ghost use Rattle.solver.specs.Machine.{IsCommandShort};
 ghost use Rattle.solver.specs.Runs.{command_of, IsTurnWithCause, IsRun};
 ghost use Rattle.game_file.specs.State.{GoesAhead};
 ghost use Rattle.solver.specs.Solvers.{state, IsReady};

@@ -257,7 +257,8 @@ returns-in_err-commit-clause-full g c = λ ready honest.
     let file = c.args.self.now.file in
     let (k, is, made) = kept_there c.in_ok-source.source.now _ (subst (λ (o : Option Compiled). IsSourceOf o (g.F.GameFile.state file).kept) c.in_ok-source.ensures.game ready.1) in
     passed_on _ c.from_residual-in_err-commit.result _ c.from_residual-in_err-commit.ensures
-    (λ full. absurd (commit_not_full _ _ _ _ _ (c.in_err-commit.ensures.cause file k ready.0 is c.in-Ok.ensures.ahead) full))
+    (λ full. absurd (commit_not_full k.table (g.F.Table.stored c.work.new.table) (g.F.GameFile.state file) (g.F.GameFile.state c.commit.new.self) _
+    (c.in_err-commit.ensures.cause file k ready.0 is c.in-Ok.ensures.ahead) full))
 
 pub returns-in_err-source-clause-full : goal.returns-in_err-source-clause-full
 returns-in_err-source-clause-full g c = λ ready honest.
