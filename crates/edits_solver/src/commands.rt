@@ -2,7 +2,7 @@
 ghost use Rattle.std.specs.Prelude.{◌≡◌, ◌∷◌, [], ◌++◌, ℕ, false, IfOk, IfErr, IsTrue, OnOk};
 ghost use Rattle.rbg_game.specs.Goals.{points_of};
 ghost use Rattle.retrograde.specs.declared.records.Counts.{Counts};
-ghost use Rattle.solver.specs.Machine.{load as load_it, work as work_on, LoadCause, WorkCause};
+ghost use Rattle.solver.specs.Machine.{load as load_it, work as work_on, LoadCause, WorkCause, IsShortOfPages};
 ghost use Rattle.solver.specs.Runs.{IsRun};
 ghost use Rattle.solver.specs.Solvers.{state, IsReady};
 ghost use Rattle.solver.specs.Steps.{IsDone};
@@ -52,6 +52,18 @@ pub fn refused_work<F: GameFile>(
     ensures { IsReady solver.old → IfErr result (WorkCause (units_in asked) (state solver.old) (state solver.new)) }
 {
     solver.work(asked)
+}
+
+/// `full` of `FileSolver::work`.
+pub fn full_work<F: GameFile>(
+    solver: &mut FileSolver<F>,
+    wanted: Units,
+) -> Result<Worked, SolverFault>
+    ensures { IsReady solver.old → IsTrue (state solver.old).disk.honest
+        → IfErr result (λ fault. fault ≡ SolverFault.TableFull
+        → IsShortOfPages (units_in wanted) (F.free solver.old.file) (state solver.old).kept) }
+{
+    solver.work(wanted)
 }
 
 /// `run` of `FileSolver::run`.
