@@ -1,7 +1,7 @@
 -- Bytes of a page are put in the place of others: what lies elsewhere is as it was.
-use Rattle.std.proofs.Common.{◌≡◌, ◌⊎◌, inl, inr, ℕ, ◌+◌, ◌-◌, ◌*◌, ◌<◌, ◌≤◌, List, ◌++◌, length, take, drop, sym, ◌∙◌, ap, arith, length-drop, length-take, length-append}
+use Rattle.std.proofs.Common.{◌≡◌, inl, inr, ℕ, ◌+◌, ◌-◌, ◌*◌, ◌≤◌, List, ◌++◌, length, take, drop, sym, ◌∙◌, ap, arith, length-drop, length-take, length-append}
 use Rattle.std.proofs.lemmas.List.{take-append-le, drop-append-le, drop-drop, drop_at, drop-take, take-take}
-use Rattle.page_store.specs.Page.{eighth, IsElsewhere, StaysElsewhere}
+use Rattle.page_store.specs.Page.{eighth, StaysElsewhere}
 
 -- a part but the first, from the fourth byte on
 eighth_is : (k : ℕ) (bytes : List ℕ) → 1 ≤ k → eighth k bytes ≡ take 512 (drop (512 * k - 4) (drop 4 bytes))

@@ -1,12 +1,11 @@
 -- The descent to the value at a key.
-use Rattle.std.proofs.Common.{◌≡◌, ◌⊎◌, inl, inr, ℕ, ◌+◌, ◌≤◌, List, Option, None, length, IsTrue, refl, sym, ◌∙◌, ap, subst, arith}
+use Rattle.std.proofs.Common.{◌≡◌, inl, inr, ℕ, ◌+◌, ◌≤◌, List, Option, None, length, IsTrue, sym, ◌∙◌, ap, subst, arith}
 use Rattle.std.specs.Option.{option_or}
 use Rattle.sector_disk.specs.aid.Moments.{still_honest}
 use Rattle.page_store.specs.declared.fault.PageFault.{PageFault}
 use Rattle.page_store.specs.declared.fault.PageFault.TheVariants.{Disk, NotATable, Damaged, TableFull, OutOfMemory, Closed}
 use Rattle.page_store.specs.Store.{Store, reads, StoreWorks, IsUnchanged}
 use Rattle.page_store.specs.aid.Works.{works_refl, works_then}
-use Rattle.btree.specs.declared.page.kind.Kind.{Kind}
 use Rattle.btree.specs.declared.page.kind.Kind.TheVariants.{Leaf, Inner}
 use Rattle.btree.specs.declared.page.widths.Widths.{Widths}
 use Rattle.btree.specs.Page.{Item, items_in, child_of, IsPage}

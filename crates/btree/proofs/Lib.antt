@@ -8,6 +8,7 @@ mod Looking
 mod FindPassing
 mod Reaching
 mod PutFailing
+mod FreePages
 mod Fitting
 mod InPlace
 mod Listing

@@ -45,13 +45,11 @@ FileLoadCause start old new Closed = old.closed ≡ true
 FileLoadCause start old new Inconsistent = length start ≡ 0
 FileLoadCause start old new _ = ⊥
 
--- `commit`: the disk failed, or is not honest; too few pages are free; memory ran out; the file was closed; or the table's parts
--- do not fit together, or not with positions as long as those of the table before
+-- `commit`: the disk failed, or is not honest; the file was closed; or the table's parts do not fit together, or not
+-- with positions as long as those of the table before
 abbrev pub FileCommitCause : Stored (List ℕ) → Stored (List ℕ) → State → State → FileFault → Type 0
 FileCommitCause was is old new DiskFailed = Grew old.failures new.failures
 FileCommitCause was is old new Damaged = ¬ IsTrue old.disk.honest
-FileCommitCause was is old new TableFull = Unit {0}
-FileCommitCause was is old new OutOfMemory = Unit {0}
 FileCommitCause was is old new Closed = old.closed ≡ true
 FileCommitCause was is old new Inconsistent = IsTrue old.disk.honest → (n : ℕ) → FitsTogether n was → ¬ FitsTogether n is
 FileCommitCause was is old new _ = ⊥

@@ -46,10 +46,6 @@ pub trait GameFile: Table {
     /// What is kept of an earlier commit, for whoever reads it still, is kept in the later state of the file.
     ghost lasts: { Self → Self → Type 0 };
 
-    /// How many pages are free: not those that the last commit keeps, nor those that were used since, nor those that are kept for whoever
-    /// reads an earlier commit still.
-    ghost free: { Self → ℕ };
-
     /// Makes the empty table on this disk, and opens it: E1, E3 and then E6, E8.
     fn create(alloc: Global, disk: Self::Device) -> Result<Self, Refused<Self::Device>>
         ensures whole { IfOk result is_whole }
@@ -108,9 +104,11 @@ pub trait GameFile: Table {
     fn capacity(&self) -> u32
         ensures { result ≡ (state self.now).capacity };
 
-    /// How many of them are free: so many may be taken before E7. It takes no memory and always answers.
+    /// How many of them are free, and may be taken before E7: not those that the last commit keeps, nor those that
+    /// were used since, nor those that are kept for whoever reads an earlier commit still. It takes no memory and
+    /// always answers.
     fn free_pages(&self) -> u32
-        ensures { result ≡ free self.now };
+        ensures { result ≡ Self.free self.now };
 
     /// Commits the table of a game that is loaded now, its start and no more, where none was, with this packing and goal: S6 if the start
     /// has no bytes, and E9, E1, E7, E8. After a refusal there is still none, but that after E1 in a write or a sync the file is closed,
@@ -136,9 +134,10 @@ pub trait GameFile: Table {
             → IfErr result (FileLoadCause start.now.items (state self.old) (state self.new)) }
         ensures still { IfErr result (λ fault. fault ≢ FileFault.Disk → (state self.new).closed ≡ (state self.old).closed) };
 
-    /// Commits the table that a command has come to since the file was whole: S6 if its parts do not fit together, and E9, E1, E7, E8.
-    /// A refusal gives the command up, but that after E1 in a write or a sync the file is closed, and the disk has the table of the
-    /// last commit or this one.
+    /// Commits the table that a command has come to since the file was whole: S6 if its parts do not fit together,
+    /// and E9, E1. It takes neither a page nor memory, and answers neither E7 nor E8. A refusal gives the command up,
+    /// but that after E1 in a write or a sync the file is closed, and the disk has the table of the last commit or
+    /// this one.
     fn commit(&mut self) -> Result<(), FileFault>
         ensures ahead { GoesAhead (state self.old) (state self.new) }
         ensures lasts { lasts self.old self.new }
@@ -163,7 +162,7 @@ pub trait GameFile: Table {
         ensures back { (was : Self) → is_whole was → Self.goes_on was self.old
             → is_whole self.new × IsNothingPut stores (state was) (state self.new) × ((state self.new).closed ≡ (state was).closed) }
         ensures freed { (was : Self) → is_whole was → (Self.goes_on was self.old ⊎ ((fault : TableFault) × Self.fails was self.old fault))
-            → free self.new ≡ free was }
+            → Self.free self.new ≡ Self.free was }
         ensures failed { (was : Self) (fault : TableFault) → is_whole was → Self.fails was self.old fault
             → is_whole self.new × IsNothingPut stores (state was) (state self.new) × FileTableCause (state was) (state self.new) fault }
         ensures still { (was : Self) (fault : TableFault) → is_whole was → Self.fails was self.old fault → fault ≢ TableFault.Disk
@@ -233,18 +232,12 @@ pub trait GameFile: Table {
     /// So they do where one is not answered.
     ghost fails_lasts: { (old new : Self) (fault : TableFault) → Self.fails old new fault → lasts old new };
 
-    /// The table's reading calls leave as many pages free.
-    ghost stays_free: { (old new : Self) → Self.stays old new → free new ≡ free old };
-
-    /// Where a call of the table finds no page, none is free.
-    ghost fails_full: { (old new : Self) → Self.fails old new TableFault.TableFull → free new ≡ 0 };
-
     /// The page of the root is never free.
-    ghost whole_free: { (file : Self) → is_whole file → free file < (state file).capacity };
+    ghost whole_free: { (file : Self) → is_whole file → Self.free file < (state file).capacity };
 
     /// Each other page of an open file that keeps no game is.
     ghost empty_free: { (file : Self) → is_whole file → (state file).closed ≡ false → (state file).kept ≡ None
-        → (state file).capacity ≡ free file + 1 };
+        → (state file).capacity ≡ Self.free file + 1 };
 
     /// No file has more than 16,777,216 positions.
     ghost few: { (file : Self) → (Self.counted file).known ≤ 2 ^ 24 };

@@ -3,7 +3,7 @@ use Rattle.std.proofs.Common.{◌≡◌, ◌≢◌, ◌⊎◌, inl, inr, ℕ, �
 use Rattle.std.specs.Prelude.{IfSome}
 use Rattle.std.proofs.lemmas.Bool.{cases_lt}
 use mathlib.Core.Logic.{∥∥₁_elim, ∥∥₁_prop}
-use Rattle.sector_disk.specs.Disk.{Picture, Disk, Grew, LeavesOnly, size}
+use Rattle.sector_disk.specs.Disk.{Disk, Grew, LeavesOnly, size}
 use Rattle.sector_disk.specs.aid.Moments.{goes_on_trans, leaves_more, still_honest}
 use Rattle.page_store.specs.Causes.{GrowCause}
 use Rattle.page_store.specs.Page.{page}
@@ -24,7 +24,6 @@ use Rattle.game_file.specs.Stops.{LeavesTable}
 use Rattle.tree_table.specs.declared.slot.TreeSlot.{TreeSlot}
 use Rattle.tree_table.specs.Held.{KeepsTrees, StoresTrees}
 use Rattle.tree_table.specs.Keeping.{AreSized, IsKeptInTrees, IsStill, KeepsOn, StandsFor, slot_or_bare}
-use Rattle.tree_table.specs.Slot.{slot_in}
 use Rattle.tree_table.specs.Spelled.{table_in}
 use Rattle.tree_table.specs.aid.Growing.{grown_keeps, grown_mark, grown_stands_for}
 use Rattle.tree_table.specs.aid.Keeping.{keeps_in_more_trees, kept_stands, spells_stores_trees}

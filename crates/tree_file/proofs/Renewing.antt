@@ -1,18 +1,15 @@
 -- A commit of another root over the same pages: what they spell is what they spelled.
 use Rattle.std.proofs.Common.{◌≡◌, ◌≢◌, ◌⊎◌, inl, inr, ℕ, ◌≤◌, ◌<◌, false, true, List, length, Option, None, Some, IsTrue, refl, sym, ◌∙◌, ap, subst, arith}
 use Rattle.std.specs.Prelude.{IfSome}
-use mathlib.Core.Logic.{∥∥₁_elim, ∥∥₁_prop}
 use Rattle.sector_disk.specs.Disk.{GoesOn, Grew, LeavesOnly}
 use Rattle.sector_disk.specs.aid.Moments.{leaves_more, reads_left, still_honest}
 use Rattle.position_pack.specs.declared.kind.PackingKind.{PackingKind}
 use Rattle.page_store.specs.Causes.{StoreCommitCause}
 use Rattle.page_store.specs.declared.fault.PageFault.{PageFault}
 use Rattle.page_store.specs.declared.fault.PageFault.TheVariants as page
-use Rattle.page_store.specs.declared.holds.Holders.{Holders}
 use Rattle.page_store.specs.declared.marks.Mark.{Mark}
-use Rattle.page_store.specs.declared.marks.Mark.TheVariants.{Committed, Waiting, Fresh, Released, Free, Past}
 use Rattle.page_store.specs.Holds.{holders_at}
-use Rattle.page_store.specs.Marks.{mark, committed, is_past, needs, rests}
+use Rattle.page_store.specs.Marks.{mark, is_past, needs, rests}
 use Rattle.page_store.specs.Spelling.{IsCalm}
 use Rattle.page_store.specs.Store.{Store, IsSoundStore, Commits, IsCommitted, IsUnchanged, SavedAs, StopLeaves, reads}
 use Rattle.page_store.specs.aid.Carrying.{saved_spells}
@@ -29,17 +26,14 @@ use Rattle.tree_table.specs.declared.tree.Tree.{Tree}
 use Rattle.tree_table.specs.Entries.{AreEntriesOf}
 use Rattle.tree_table.specs.Forest.{IsForest}
 use Rattle.tree_table.specs.Held.{KeepsOnPages, StoresTrees}
-use Rattle.tree_table.specs.Keeping.{AreSized, IsKeptInTrees, IsStill, StandsFor, slot_or_bare}
+use Rattle.tree_table.specs.Keeping.{IsKeptInTrees, IsStill, StandsFor, slot_or_bare}
 use Rattle.tree_table.specs.Slot.{slot_in, IsGameTreeSlot}
-use Rattle.tree_table.specs.Working.{Work, work_of}
+use Rattle.tree_table.specs.Working.{work_of}
 use Rattle.tree_table.specs.aid.Growing.{rests_on}
 use Rattle.tree_table.specs.aid.Keeping.{kept_stands, spells_stores_trees}
-use Rattle.tree_table.specs.aid.Standing.{still_stands_for, was_honest}
 use Rattle.tree_file.specs.File.{File, NamesSlot, IsWholeFile, file_of, kept_of, kept_with, state_of}
 use Rattle.tree_file.specs.Moving.{IsMoved, IsNotMoved, LeavesPages}
-use Rattle.tree_file.specs.aid.Backed.{IsBackedFile}
-use Rattle.tree_file.specs.aid.Whole.{again_goal, again_kept, again_packing, again_text, again_whole, whole_leaves}
-use Rattle.tree_file.proofs.Saving.{calm_sealed}
+use Rattle.tree_file.specs.aid.Whole.{again_kept, again_whole, whole_leaves}
 
 -- a root that names the same slot says the same of a game
 module _ (old root : List ℕ) (same : slot_in root ≡ slot_in old) where

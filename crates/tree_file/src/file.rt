@@ -1,6 +1,5 @@
 //! A table on trees in a file of one layout.
 ghost use Rattle.std.specs.Prelude.{◌≡◌, ◌↔◌, ◌≢◌, ◌⊎◌, ◌≤◌, ◌<◌, ◌/◌, ℕ, true, None, min, IfOk, IfErr, IsTrue};
-ghost use Rattle.std.proofs.Common.{ap};
 ghost use Rattle.tree_file.specs.aid.Making.{of_new};
 ghost use Rattle.page_store.specs.declared.limits.TheConstants.{MAX_PAGES};
 ghost use Rattle.game_file.specs.Kept.{in_any};
@@ -16,7 +15,7 @@ ghost use Rattle.tree_table.specs.Keeping.{AreSized, StandsFor};
 ghost use Rattle.tree_file.specs.File.{IsWholeFile, UsesNoOther, state_of};
 ghost use Rattle.tree_file.specs.aid.Backed.{are_sized_prop};
 ghost use Rattle.page_store.specs.declared.marks.Mark.TheVariants.{Waiting};
-ghost use Rattle.page_store.specs.Marks.{mark, free_count};
+ghost use Rattle.page_store.specs.Marks.{mark};
 ghost use Rattle.tree_file.specs.Older.{IsOlderTable};
 ghost use Rattle.tree_table.specs.Versions.{KeepsHolds};
 ghost use Rattle.tree_table.specs.aid.Versions.{keeps_holds_then, works_keep_holds};
@@ -186,12 +185,6 @@ impl<P: PagesOnDisk, const LAYOUT: u32> GameFile for TreeFile<P, LAYOUT> {
     ghost goes_on_lasts = { λ old new it. works_keep_holds (file_in old).work.store (file_in new).work.store it.work.works };
 
     ghost fails_lasts = { λ old new fault it. works_keep_holds (file_in old).work.store (file_in new).work.store it.work.works };
-
-    ghost free = { λ t. free_count (file_in t).work.store.marks };
-
-    ghost stays_free = { λ old new it. ap free_count it.work.unchanged.marks };
-
-    ghost fails_full = { λ old new it. it.work.cause };
 
     ghost whole_free = { λ t whole. whole_free LAYOUT (file_in t) whole };
 

@@ -1,5 +1,6 @@
 //! The table that a command has come to, in a file.
 ghost use Rattle.std.specs.Prelude.{refl};
+ghost use Rattle.page_store.specs.Marks.{free_count};
 ghost use Rattle.tree_table.specs.Working.{IsHonestWork, table_now};
 ghost use Rattle.tree_table.specs.aid.Frames as work;
 ghost use Rattle.tree_file.specs.Calls.{FileStays, FileGoesOn, FileFails};
@@ -19,6 +20,8 @@ impl<P: PagesOnDisk, const LAYOUT: u32> Table for TreeFile<P, LAYOUT> {
 
     ghost counted = { λ t. t.table.slot.sizes.counts };
 
+    ghost free = { λ t. free_count (file_in t).work.store.marks };
+
     ghost stays = { λ was is. FileStays (file_in was) (file_in is) };
 
     ghost goes_on = { λ was is. FileGoesOn (file_in was) (file_in is) };
@@ -28,6 +31,10 @@ impl<P: PagesOnDisk, const LAYOUT: u32> Table for TreeFile<P, LAYOUT> {
     ghost counts_are = { λ t honest. work.counts_are (file_in t).work (t.table.holds honest) };
 
     ghost stays_here = { λ t. frames.stays_here (file_in t) };
+
+    ghost stays_free = { λ a b it. work.stays_free it.work };
+
+    ghost full_free = { λ a b it. work.full_free it.work };
 
     ghost stays_then = { λ a b c first second. frames.stays_then first second };
 

@@ -1,5 +1,5 @@
 -- A table at work whose store gets more pages.
-use Rattle.std.proofs.Common.{◌≡◌, ◌⊎◌, inl, inr, ℕ, ◌≤◌, ◌<◌, ◌^◌, Bool, true, false, List, length, Result, Ok, Err, IsTrue, refl, sym, ◌∙◌, ap, subst, arith}
+use Rattle.std.proofs.Common.{◌≡◌, ◌⊎◌, inl, inr, ℕ, ◌≤◌, ◌<◌, ◌^◌, Bool, true, false, List, length, Result, Ok, Err, IsTrue, sym, ◌∙◌, ap, subst, arith}
 use Rattle.std.specs.Prelude.{OnOk, OnErr}
 use Rattle.sector_disk.specs.Disk.{GoesOn}
 use Rattle.page_store.specs.declared.fault.PageFault.{PageFault}
@@ -11,7 +11,6 @@ use Rattle.page_store.specs.Store.{Store, IsStoreGrown, reads}
 use Rattle.page_store.specs.aid.Carrying.{grown_calm}
 use Rattle.retrograde.specs.Stored.{Stored}
 use Rattle.tree_table.specs.declared.slot.TreeSlot.{TreeSlot}
-use Rattle.tree_table.specs.declared.tree.Tree.{Tree}
 use Rattle.tree_table.specs.Keeping.{IsOneOf, IsStill}
 use Rattle.tree_table.specs.Trees.{root_of}
 use Rattle.tree_table.specs.Working.{work_of, table_now, HoldsTable, HoldsWork}

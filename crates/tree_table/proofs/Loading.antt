@@ -1,5 +1,5 @@
 -- The first table of a game.
-use Rattle.std.proofs.Common.{◌≡◌, ℕ, ◌+◌, ◌*◌, ◌<◌, ◌≤◌, List, length, Option, None, Some, Result, Ok, Err, IsTrue, refl, sym, ◌∙◌, subst, arith}
+use Rattle.std.proofs.Common.{◌≡◌, ℕ, ◌+◌, ◌*◌, ◌<◌, ◌≤◌, List, length, Option, None, Result, Ok, Err, IsTrue, refl, sym, ◌∙◌, subst, arith}
 use Rattle.std.specs.Prelude.{OnErr, IfErr}
 use Rattle.sector_disk.specs.aid.Moments.{leaves_more, still_honest}
 use Rattle.page_store.specs.Causes.{StoreCommitCause}

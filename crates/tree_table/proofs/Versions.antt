@@ -1,12 +1,11 @@
 -- A hold is taken or let go beside a table at work.
-use Rattle.std.proofs.Common.{◌≡◌, ◌⊎◌, inl, inr, ℕ, Bool, true, List, length, Option, None, Some, IsTrue, sym, ◌∙◌, ap, subst}
+use Rattle.std.proofs.Common.{◌≡◌, ◌⊎◌, inl, inr, ℕ, Bool, true, List, Option, None, Some, IsTrue, sym, ◌∙◌, ap, subst}
 use Rattle.std.specs.Option.{IfSome, IfNone}
 use mathlib.Core.Logic.{∥∥₁_elim, ∥∥₁_prop}
 use Rattle.sector_disk.specs.Disk.{Disk}
 use Rattle.page_store.specs.Page.{page}
 use Rattle.page_store.specs.declared.holds.Hold.{Hold}
 use Rattle.page_store.specs.declared.holds.HoldPlace.{HoldPlace}
-use Rattle.page_store.specs.declared.marks.Mark.{Mark}
 use Rattle.page_store.specs.declared.marks.Mark.TheVariants.{Committed, Fresh}
 use Rattle.page_store.specs.Holds.{needed_by, holders_at}
 use Rattle.page_store.specs.Marks.{mark, left}
@@ -15,7 +14,7 @@ use Rattle.retrograde.specs.Stored.{Stored}
 use Rattle.tree_table.specs.declared.slot.TreeSlot.{TreeSlot}
 use Rattle.tree_table.specs.Spelled.{table_in}
 use Rattle.tree_table.specs.Versions.{StandsInVersion}
-use Rattle.tree_table.specs.Working.{Work, work_of, table_now, IsHonestWork, HoldsTable, HoldsWork, HasTable}
+use Rattle.tree_table.specs.Working.{work_of, IsHonestWork, HoldsTable, HoldsWork, HasTable}
 use Rattle.tree_table.specs.aid.Frames.{table_still}
 use Rattle.tree_table.proofs.Committing.{held_on}
 

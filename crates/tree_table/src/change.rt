@@ -1,10 +1,12 @@
 //! What a slot names is changed. The pages that it names stay as they are where the committed root needs them.
-ghost use Rattle.std.specs.Prelude.{◌≡◌, ◌≢◌, ◌+◌, ◌≤◌, ◌<◌, ℕ, List, Some, OnOk, IfOk, IfErr, IsTrue, length, slice_get};
+ghost use Rattle.std.specs.Prelude.{◌≡◌, ◌≢◌, ◌+◌, ◌*◌, ◌≤◌, ◌<◌, ℕ, List, Some, length, slice_get};
+ghost use Rattle.std.specs.Prelude.{OnOk, IfOk, IfErr, IsTrue};
 ghost use Rattle.page_store.specs.Marks.{free_count};
 ghost use Rattle.page_store.specs.Store.{StoreWorks};
 ghost use Rattle.retrograde.specs.Changes.{fresh_record, with_position, with_record, with_edge, with_settled};
 ghost use Rattle.retrograde.specs.Stored.{Stored, HasRecord};
 ghost use Rattle.table.specs.declared.fault.TableFault.TheVariants.{Disk, TableFull};
+ghost use Rattle.table.specs.declared.limits.TheConstants.{PAGES_PER_ENTRY};
 ghost use Rattle.btree.specs.Page.{Item};
 ghost use Rattle.tree_table.specs.declared.tree.Tree.{Tree};
 ghost use Rattle.tree_table.specs.Causes.{HasNoForest, HasNoTable, ChangeCause};
@@ -49,6 +51,7 @@ fn put_in<P: Pages>(
     ensures first { root_of slot.roots tree ≡ 0
         → OnOk result (free_count (P.store store.new).marks + 1 ≡ free_count (P.store store.old).marks) }
     ensures full { root_of slot.roots tree ≡ 0 → IfErr result (λ fault. fault ≡ TableFull → free_count (P.store store.old).marks ≡ 0) }
+    ensures takes { free_count (P.store store.old).marks ≤ free_count (P.store store.new).marks + PAGES_PER_ENTRY }
 {
     let widths = widths_of(slot.sizes.packed, tree);
     match put(store, widths, slot.roots.root(tree), key, value) {
@@ -98,6 +101,7 @@ pub fn add_position<P: Pages>(
     ensures cause { IfErr result (ChangeCause HasNoTable slot (P.store store.old) (P.store store.new)) }
     ensures full { slot.roots.positions ≡ 0 → slot.roots.records ≡ 0
         → IfErr result (λ fault. fault ≡ TableFull → free_count (P.store store.old).marks < 2) }
+    ensures takes { free_count (P.store store.old).marks ≤ free_count (P.store store.new).marks + PAGES_PER_ENTRY * 2 }
 {
     let number = slot.sizes.counts.known;
     let key = number_key(number);
@@ -155,6 +159,7 @@ pub fn set_record<P: Pages>(
     ensures open { OnOk result ((P.store store.new).closed ≡ (P.store store.old).closed) }
     ensures still { IfErr result (λ fault. fault ≢ Disk → (P.store store.new).closed ≡ (P.store store.old).closed) }
     ensures cause { IfErr result (ChangeCause HasNoTable slot (P.store store.old) (P.store store.new)) }
+    ensures takes { free_count (P.store store.old).marks ≤ free_count (P.store store.new).marks + PAGES_PER_ENTRY }
 {
     let key = number_key(number);
     let cell = cell_bytes(&was.position, &kept);
@@ -184,6 +189,7 @@ pub fn add_edge<P: Pages>(
     ensures open { OnOk result ((P.store store.new).closed ≡ (P.store store.old).closed) }
     ensures still { IfErr result (λ fault. fault ≢ Disk → (P.store store.new).closed ≡ (P.store store.old).closed) }
     ensures cause { IfErr result (ChangeCause HasNoTable slot (P.store store.old) (P.store store.new)) }
+    ensures takes { free_count (P.store store.old).marks ≤ free_count (P.store store.new).marks + PAGES_PER_ENTRY }
 {
     let key = key_behind(successor, Some(predecessor));
     let mut none = Bytes::new();
@@ -215,6 +221,7 @@ pub fn push_settled<P: Pages>(
     ensures open { OnOk result ((P.store store.new).closed ≡ (P.store store.old).closed) }
     ensures still { IfErr result (λ fault. fault ≢ Disk → (P.store store.new).closed ≡ (P.store store.old).closed) }
     ensures cause { IfErr result (ChangeCause HasNoTable slot (P.store store.old) (P.store store.new)) }
+    ensures takes { free_count (P.store store.old).marks ≤ free_count (P.store store.new).marks + PAGES_PER_ENTRY }
 {
     let place = slot.sizes.counts.settled;
     let key = number_key(place);

@@ -1,10 +1,13 @@
 //! The cell that was looked at or written last stays in memory: a unit of work asks for the same one several times.
-ghost use Rattle.std.specs.Prelude.{◌≡◌, ◌≤◌, ◌<◌, ◌↔◌, ℕ, List, None, OnOk, OnErr, IfErr, IfSome, IsTrue, length};
+ghost use Rattle.std.specs.Prelude.{◌≡◌, ◌+◌, ◌≤◌, ◌<◌, ◌↔◌, ℕ, List, None, length};
+ghost use Rattle.std.specs.Prelude.{OnOk, OnErr, IfErr, IfSome, IsTrue};
+ghost use Rattle.page_store.specs.Marks.{free_count};
 ghost use Rattle.page_store.specs.Store.{StoreWorks, IsUnchanged};
 ghost use Rattle.position_pack.specs.declared.limits.TheConstants.{MAX_PACKED};
 ghost use Rattle.retrograde.specs.Changes.{with_record};
 ghost use Rattle.retrograde.specs.Stored.{Stored};
 ghost use Rattle.table.specs.Faults.{NeedsNoPage};
+ghost use Rattle.table.specs.declared.limits.TheConstants.{PAGES_PER_ENTRY};
 ghost use Rattle.tree_table.specs.Causes.{IsNoTable, ReadCause};
 ghost use Rattle.tree_table.specs.Last.{HasSeen, IsSeenIn};
 ghost use Rattle.tree_table.specs.Readers.{IsNear};
@@ -117,6 +120,8 @@ impl<P: Pages> TreeTable<P> {
         ensures known { OnOk result ((work_in self.new).slot.sizes.counts.known ≡ (work_in self.old).slot.sizes.counts.known) }
         ensures ahead { OnOk result (WorkGoesOn (work_in self.old) (work_in self.new)) }
         ensures fault { IfErr result (WorkFails (work_in self.old) (work_in self.new)) }
+        ensures takes { free_count (work_in self.old).store.marks
+            ≤ free_count (work_in self.new).store.marks + PAGES_PER_ENTRY }
     {
         let torn = self.torn;
         self.torn = true;

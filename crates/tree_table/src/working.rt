@@ -1,5 +1,6 @@
 //! A game's table on trees of pages.
 ghost use Rattle.std.specs.Prelude.{◌≡◌, ◌↔◌, ◌≤◌, ◌^◌, [], false, length, IfSome, IsTrue};
+ghost use Rattle.page_store.specs.Marks.{free_count};
 ghost use Rattle.tree_table.specs.Working.{HoldsWork, IsHonestWork, bare_slot as bare, table_now, work_of};
 ghost use Rattle.tree_table.specs.Last.{IsLastSeen};
 ghost use Rattle.tree_table.specs.aid.Last.{long_prop, last_prop};
@@ -84,6 +85,8 @@ impl<P: Pages> Table for TreeTable<P> {
 
     ghost counted = { λ t. t.slot.sizes.counts };
 
+    ghost free = { λ t. free_count (work_in t).store.marks };
+
     ghost stays = { λ was is. work.WorkStays (work_in was) (work_in is) };
 
     ghost goes_on = { λ was is. work.WorkGoesOn (work_in was) (work_in is) };
@@ -93,6 +96,10 @@ impl<P: Pages> Table for TreeTable<P> {
     ghost counts_are = { λ t honest. frames.counts_are (work_in t) (t.holds honest) };
 
     ghost stays_here = { λ t. frames.stays_here (work_in t) };
+
+    ghost stays_free = { λ a b it. frames.stays_free it };
+
+    ghost full_free = { λ a b it. frames.full_free it };
 
     ghost stays_then = { λ a b c first second. frames.stays_then first second };
 

@@ -1,5 +1,6 @@
 //! An entry is put below a page: down to its leaf the pages are read, and on the way back each is written anew.
-ghost use Rattle.std.specs.Prelude.{◌≡◌, ◌≢◌, ◌≤◌, ℕ, false, length, OnOk, IfOk, IfErr, IsTrue};
+ghost use Rattle.std.specs.Prelude.{◌≡◌, ◌≢◌, ◌≤◌, ◌+◌, ◌*◌, ℕ, false, length, OnOk, IfOk, IfErr, IsTrue};
+ghost use Rattle.page_store.specs.Marks.{free_count};
 ghost use Rattle.page_store.specs.Store.{StoreWorks};
 ghost use Rattle.btree.specs.declared.page.kind.Kind.TheVariants.{Inner};
 ghost use Rattle.btree.specs.aid.Causes.{BelowCause};
@@ -34,6 +35,7 @@ pub fn put_below<P: Pages>(
     ensures works { StoreWorks (P.store store.old) (P.store store.new) }
     ensures still { IfErr result (λ fault. fault ≢ PageFault.Disk → (P.store store.new).closed ≡ (P.store store.old).closed) }
     ensures cause { IfErr result (BelowCause widths levels page (P.store store.old) (P.store store.new)) }
+    ensures takes { free_count (P.store store.old).marks ≤ free_count (P.store store.new).marks + (2 * levels + 2) }
 {
     let mut bytes = [0; 4096];
     store.read_page(page, &mut bytes)?;

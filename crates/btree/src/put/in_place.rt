@@ -91,6 +91,7 @@ fn put_on<P: Pages>(
     ensures works { StoreWorks (P.store store.old) (P.store store.new) }
     ensures still { IfErr result (λ fault. fault ≢ PageFault.Disk → (P.store store.new).closed ≡ (P.store store.old).closed) }
     ensures cause { IfErr result (WriteCause (P.store store.old) (P.store store.new)) }
+    ensures marks { (P.store store.new).marks ≡ (P.store store.old).marks }
 {
     store.edit_page(page, &EntryPut { widths, key, value })
 }
@@ -117,6 +118,7 @@ pub fn put_in_place<P: Pages>(
     ensures works { StoreWorks (P.store store.old) (P.store store.new) }
     ensures still { IfErr result (λ fault. fault ≢ PageFault.Disk → (P.store store.new).closed ≡ (P.store store.old).closed) }
     ensures cause { IfErr result (WriteCause (P.store store.old) (P.store store.new)) }
+    ensures marks { (P.store store.new).marks ≡ (P.store store.old).marks }
 {
     let fresh = store.is_fresh(page);
     if levels == 0 || !fresh {

@@ -1,10 +1,12 @@
 //! An entry is put into a map, which may get a new root.
-ghost use Rattle.std.specs.Prelude.{◌≡◌, ◌≢◌, ◌≤◌, ◌<◌, ◌+◌, [], ◌∷◌, ℕ, false, List, length, OnOk, IfOk, IfErr, IsTrue};
+ghost use Rattle.std.specs.Prelude.{◌≡◌, ◌≢◌, ◌≤◌, ◌<◌, ◌+◌, ◌*◌, [], ◌∷◌, ℕ, false, List, length};
+ghost use Rattle.std.specs.Prelude.{OnOk, IfOk, IfErr, IsTrue};
 ghost use Rattle.page_store.specs.Marks.{free_count};
 ghost use Rattle.page_store.specs.Store.{reads, StoreWorks};
 ghost use Rattle.btree.specs.Page.{Item, least_of, items_in, IsPage};
 ghost use Rattle.btree.specs.Changes.{HoldsMap, AreHeld, TakePlace, MapPutCause};
 ghost use Rattle.btree.specs.Entries.{put_entry};
+ghost use Rattle.btree.specs.declared.map.limits.TheConstants.{MAX_LEVELS};
 ghost use Rattle.btree.specs.aid.Causes.{WriteCause};
 ghost use Rattle.btree.specs.aid.PutItems.{listed, AreWhole};
 
@@ -21,6 +23,7 @@ const LEVELS: usize = MAX_LEVELS - 1;
 
 /// Puts this value at this key, and answers the new root. The first entry of a map takes one page. `Damaged` where below the root is
 /// no map, `TableFull` where a page is needed and none is free. After an error the store goes back by `discard`.
+/// Answered or not, it takes two pages on each level at most, and one for a new root.
 pub fn put<P: Pages>(
     store: &mut P,
     widths: Widths,
@@ -41,6 +44,8 @@ pub fn put<P: Pages>(
     ensures cause { IfErr result (MapPutCause widths root (P.store store.old) (P.store store.new)) }
     ensures first { root ≡ 0 → OnOk result (free_count (P.store store.new).marks + 1 ≡ free_count (P.store store.old).marks) }
     ensures refused { root ≡ 0 → IfErr result (λ fault. fault ≡ PageFault.TableFull → P.store store.new ≡ P.store store.old) }
+    ensures takes { free_count (P.store store.old).marks
+        ≤ free_count (P.store store.new).marks + (2 * MAX_LEVELS + 1) }
 {
     if root == 0 {
         let entry = new_entry(widths, key, value);
@@ -73,6 +78,8 @@ fn put_anew<P: Pages>(
     ensures works { StoreWorks (P.store store.old) (P.store store.new) }
     ensures still { IfErr result (λ fault. fault ≢ PageFault.Disk → (P.store store.new).closed ≡ (P.store store.old).closed) }
     ensures cause { IfErr result (MapPutCause widths root (P.store store.old) (P.store store.new)) }
+    ensures takes { free_count (P.store store.old).marks
+        ≤ free_count (P.store store.new).marks + (2 * MAX_LEVELS + 1) }
 {
     let tops = put_below(store, widths, root, LEVELS, key, value)?;
     if tops.count == 1 {
@@ -104,6 +111,7 @@ fn on_new_page<P: Pages>(
     ensures cause { IfErr result (WriteCause (P.store store.old) (P.store store.new)) }
     ensures first { OnOk result (free_count (P.store store.new).marks + 1 ≡ free_count (P.store store.old).marks) }
     ensures refused { IfErr result (λ fault. fault ≡ PageFault.TableFull → P.store store.new ≡ P.store store.old) }
+    ensures takes { free_count (P.store store.old).marks ≤ free_count (P.store store.new).marks + 1 }
 {
     let page = store.new_page()?;
     write_on(store, widths, kind, page, items.count, &items.bytes)?;

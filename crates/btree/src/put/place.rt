@@ -1,8 +1,9 @@
 //! A page is written in the place of another.
-ghost use Rattle.std.specs.Prelude.{◌≡◌, ◌≢◌, ◌≤◌, ◌<◌, ◌*◌, [], ◌∷◌, ℕ, false, length, OnOk, IfOk, IfErr, IsTrue};
+ghost use Rattle.std.specs.Prelude.{◌≡◌, ◌≢◌, ◌≤◌, ◌<◌, ◌+◌, ◌*◌, [], ◌∷◌, ℕ, false, length};
+ghost use Rattle.std.specs.Prelude.{OnOk, IfOk, IfErr, IsTrue};
 ghost use Rattle.page_store.specs.Causes.{PageWriteCause};
 ghost use Rattle.page_store.specs.declared.marks.Mark.TheVariants.{Fresh};
-ghost use Rattle.page_store.specs.Marks.{mark as mark_of};
+ghost use Rattle.page_store.specs.Marks.{mark as mark_of, free_count};
 ghost use Rattle.page_store.specs.Store.{reads, StoreWorks};
 ghost use Rattle.btree.specs.Page.{behind_of, item_width, items_in, items_of, least_of, IsPage};
 ghost use Rattle.btree.specs.Changes.{TakePlace};
@@ -24,6 +25,7 @@ pub fn renewed<P: Pages>(store: &mut P, page: u32) -> Result<u32, PageFault>
     ensures closed { (P.store store.new).closed ≡ (P.store store.old).closed }
     ensures works { StoreWorks (P.store store.old) (P.store store.new) }
     ensures cause { IfErr result (WriteCause (P.store store.old) (P.store store.new)) }
+    ensures takes { free_count (P.store store.old).marks ≤ free_count (P.store store.new).marks + 1 }
 {
     if store.is_fresh(page) {
         return Ok(page);

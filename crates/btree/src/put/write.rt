@@ -1,5 +1,6 @@
 //! The items of a page are written, on one page or on two.
 ghost use Rattle.std.specs.Prelude.{◌≡◌, ◌≢◌, ◌≤◌, ◌<◌, ◌+◌, ◌-◌, ◌*◌, ◌++◌, false, length, take, drop, OnOk, IfOk, IfErr, IsTrue};
+ghost use Rattle.page_store.specs.Marks.{free_count};
 ghost use Rattle.page_store.specs.Store.{reads, StoreWorks};
 ghost use Rattle.btree.specs.declared.page.kind.Kind.TheVariants.{Inner};
 ghost use Rattle.btree.specs.Page.{count_in, item_width, items_in, least_of, IsPage};
@@ -36,6 +37,7 @@ fn write_two<P: Pages>(
     ensures works { StoreWorks (P.store store.old) (P.store store.new) }
     ensures still { IfErr result (λ fault. fault ≢ PageFault.Disk → (P.store store.new).closed ≡ (P.store store.old).closed) }
     ensures cause { IfErr result (WriteCause (P.store store.old) (P.store store.new)) }
+    ensures takes { free_count (P.store store.old).marks ≤ free_count (P.store store.new).marks + 2 }
 {
     let first = renewed(store, page)?;
     let second = store.new_page()?;
@@ -82,6 +84,7 @@ fn write_split<P: Pages>(
     ensures works { StoreWorks (P.store store.old) (P.store store.new) }
     ensures still { IfErr result (λ fault. fault ≢ PageFault.Disk → (P.store store.new).closed ≡ (P.store store.old).closed) }
     ensures cause { IfErr result (WriteCause (P.store store.old) (P.store store.new)) }
+    ensures takes { free_count (P.store store.old).marks ≤ free_count (P.store store.new).marks + 2 }
 {
     let all = spliced(widths, kind, bytes, from, to, items.count, &items.bytes);
     write_two(store, widths, kind, page, &all)
@@ -119,6 +122,7 @@ pub fn write_spliced<P: Pages>(
     ensures works { StoreWorks (P.store store.old) (P.store store.new) }
     ensures still { IfErr result (λ fault. fault ≢ PageFault.Disk → (P.store store.new).closed ≡ (P.store store.old).closed) }
     ensures cause { IfErr result (WriteCause (P.store store.old) (P.store store.new)) }
+    ensures takes { free_count (P.store store.old).marks ≤ free_count (P.store store.new).marks + 2 }
 {
     let total = from + items.count + (count_of(bytes) - to);
     if total * (widths.key + behind_of(widths, kind)) > ROOM {
@@ -161,6 +165,7 @@ pub fn write_led<P: Pages>(
     ensures works { StoreWorks (P.store store.old) (P.store store.new) }
     ensures still { IfErr result (λ fault. fault ≢ PageFault.Disk → (P.store store.new).closed ≡ (P.store store.old).closed) }
     ensures cause { IfErr result (WriteCause (P.store store.old) (P.store store.new)) }
+    ensures takes { free_count (P.store store.old).marks ≤ free_count (P.store store.new).marks + 2 }
 {
     let in_memory = store.bytes_of(page).is_some();
     if in_memory && store.is_fresh(page) && has_item(widths, bytes, place, items) {

@@ -3,6 +3,7 @@ use Rattle.std.proofs.Common.{◌≡◌, ℕ, Bool, List, length, IsTrue, refl, 
 use mathlib.Core.Logic.{∥∥₁_elim}
 use denote.Struct.Props.{props}
 use Rattle.sector_disk.specs.aid.Moments.{still_honest}
+use Rattle.page_store.specs.Marks.{free_count}
 use Rattle.page_store.specs.Store.{Store, StoreWorks, reads}
 use Rattle.page_store.specs.aid.Works.{works_refl, works_then}
 use Rattle.retrograde.specs.declared.records.Counts.{Counts}
@@ -42,6 +43,14 @@ stays_then first second = record {
   text = second.text ∙ first.text;
   torn = second.torn ∙ first.torn;
 }
+
+-- what is only read leaves as many pages free
+pub stays_free : {a b : Work} → WorkStays a b → free_count b.store.marks ≡ free_count a.store.marks
+stays_free it = ap free_count it.unchanged.marks
+
+-- where a call finds no page, none is free
+pub full_free : {a b : Work} → WorkFails a b TableFull → free_count b.store.marks ≡ 0
+full_free it = it.cause
 
 -- what goes on is as honest as it was
 pub honest_on : {a b : Work} → StoreWorks a.store b.store → b.torn ≡ a.torn → IsHonestWork a → IsHonestWork b

@@ -1,9 +1,8 @@
 -- What pages hold they hold wherever their bytes are the same, below each greater capacity, and after a commit.
-use Rattle.std.specs.Prelude.{◌≡◌, ◌⊎◌, ℕ, ◌*◌, ◌≤◌, true, false, List, length, Option, None, Some, IsTrue}
-use Rattle.std.proofs.Common.{inl, inr, refl, sym, ◌∙◌, ap, subst, arith}
+use Rattle.std.specs.Prelude.{◌≡◌, ◌⊎◌, ℕ, ◌≤◌, true, List, length, Option, None, Some, IsTrue}
+use Rattle.std.proofs.Common.{inl, inr, refl, sym, ap, subst, arith}
 use Rattle.sector_disk.specs.Disk.{Picture}
 use Rattle.sector_disk.specs.aid.Moments.{leaves_more}
-use Rattle.page_store.specs.Page.{page}
 use Rattle.page_store.specs.declared.marks.Mark.{Mark}
 use Rattle.page_store.specs.declared.marks.Mark.TheVariants.{Committed, Waiting, Fresh, Released, Free, Past}
 use Rattle.page_store.specs.Marks.{mark, keeps, needs, rests, IsKept, IsNeeded}

@@ -1,5 +1,5 @@
 -- What is said of the cell that was seen last is a fact.
-use Rattle.std.proofs.Common.{◌≡◌, ℕ, List, Option, Some, None, length, ap}
+use Rattle.std.proofs.Common.{◌≡◌, ℕ, List, Option, Some, None, length}
 use Rattle.std.specs.Prelude.{slice_get}
 use Rattle.std.specs.Option.{IfSome}
 use mathlib.Core.HLevel.{Unit-prop}
@@ -8,7 +8,7 @@ use Rattle.retrograde.specs.declared.records.Record.{Record}
 use Rattle.retrograde.specs.Stored.{Stored}
 use Rattle.tree_table.specs.declared.last.Seen.{Seen}
 use Rattle.tree_table.specs.Last.{IsSeenIn, IsLastSeen}
-use Rattle.tree_table.specs.Working.{Work, table_now, IsHonestWork}
+use Rattle.tree_table.specs.Working.{Work, table_now}
 
 pub position_prop : (o p : Option (List ℕ)) → IsProp (o ≡ p)
 position_prop o p = hlevel props

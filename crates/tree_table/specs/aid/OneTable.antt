@@ -4,7 +4,7 @@ use Rattle.std.proofs.Common.{refl, sym, ◌∙◌, ap, subst, arith}
 use Rattle.sector_disk.specs.Disk.{Picture}
 use Rattle.page_store.specs.Page.{page}
 use Rattle.page_chain.specs.aid.Resting.{a_chain_has_one_content}
-use Rattle.game_file.specs.Fields.{layout_in, capacity_in, first_in, SaysPages}
+use Rattle.game_file.specs.Fields.{layout_in, capacity_in, first_in}
 use Rattle.game_file.specs.aid.Packings.{one_packing, some_number}
 use Rattle.game_file.specs.Kept.{Kept}
 use Rattle.tree_table.specs.Held.{KeepsTrees, StoresTrees}

@@ -1,5 +1,5 @@
 -- What stands stays where the root and the pages that it needs are as they were.
-use Rattle.std.specs.Prelude.{◌≡◌, ◌⊎◌, ℕ, Bool, true, false, cond, List, length, Option, None, Some, IsTrue}
+use Rattle.std.specs.Prelude.{◌≡◌, ℕ, Bool, true, false, cond, List, length, Option, None, Some, IsTrue}
 use Rattle.std.proofs.Common.{inl, inr, refl, sym, ◌∙◌, ap, subst, arith}
 use Rattle.sector_disk.specs.aid.Moments.{goes_on_refl, goes_on_trans, still_honest}
 use Rattle.sector_disk.specs.Disk.{Disk, GoesOn}

@@ -1,5 +1,5 @@
 -- What a hold keeps of a table it keeps over each call and each commit, until it is let go.
-use Rattle.std.specs.Prelude.{◌≡◌, ◌≢◌, ℕ, true, false, ◌^◌, ◌≤◌, Bool, List, length, Option, None, Some, IsTrue}
+use Rattle.std.specs.Prelude.{◌≡◌, ◌≢◌, ℕ, true, false, ◌≤◌, List, length, IsTrue}
 use Rattle.std.proofs.Common.{refl, sym, ◌∙◌, ap, subst, arith}
 use Rattle.sector_disk.specs.Disk.{Disk, GoesOn}
 use Rattle.sector_disk.specs.aid.Moments.{goes_on_refl, goes_on_trans, still_honest}

@@ -1,4 +1,4 @@
-use Rattle.std.proofs.Common.{◌≡◌, ◌∙◌, ℕ, List, Some, Option, sym, ap, subst}
+use Rattle.std.proofs.Common.{◌∙◌, ℕ, List, ap, subst}
 use Rattle.game_file.specs.Bytes.{IsCell}
 use Rattle.retrograde.specs.declared.records.Record.{Record}
 use Rattle.btree.specs.Entries.{find_entry}

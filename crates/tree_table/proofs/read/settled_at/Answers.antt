@@ -1,4 +1,4 @@
-use Rattle.std.proofs.Common.{◌∙◌, ℕ, List, sym, ap, subst}
+use Rattle.std.proofs.Common.{◌∙◌, ℕ, List, ap, subst}
 use Rattle.game_file.specs.Bytes.{IsNumber}
 use Rattle.btree.specs.Entries.{find_entry}
 use Rattle.tree_table.specs.declared.tree.Tree.TheVariants.{Order}

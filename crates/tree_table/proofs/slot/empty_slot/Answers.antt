@@ -1,6 +1,5 @@
 use Rattle.std.proofs.Common.{◌≡◌, ◌∙◌, ◌≤◌, ◌<◌, ℕ, inr, refl, arith}
 use Rattle.std.specs.Prelude.{slice_index}
-use Rattle.game_file.specs.Fields.{AreZero}
 use Rattle.game_file.specs.aid.Goals.{goal_is}
 use Rattle.game_file.specs.aid.Words.{long_same, long_zero, word_zero, zeros}
 use Rattle.tree_table.proofs.slot.empty_slot.Goals as goal

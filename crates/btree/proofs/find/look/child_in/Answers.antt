@@ -1,4 +1,4 @@
-use Rattle.std.proofs.Common.{List, ℕ, suc, ◌-◌, ◌∙◌, Option, refl, ap, sym}
+use Rattle.std.proofs.Common.{List, suc, ◌-◌, ◌∙◌, refl, ap, sym}
 use Rattle.std.specs.List.{slice_get}
 use Rattle.std.specs.Option.{option_map}
 use Rattle.btree.specs.declared.page.kind.Kind.TheVariants.{Inner}

@@ -1,8 +1,6 @@
-use Rattle.std.proofs.Common.{◌≡◌, ◌∙◌, ℕ, List, length, sym, ap, arith}
+use Rattle.std.proofs.Common.{◌∙◌, ℕ, List, sym, ap, arith}
 use Rattle.std.specs.Ordering.{nat_cmp, ordering_then}
 use Rattle.std.specs.declared.cmp.Ordering.{Ordering}
-use Rattle.std.specs.declared.cmp.Ordering.TheVariants.{Equal}
-use Rattle.byteorder.specs.Endian.{big_number}
 use Rattle.btree.specs.Page.{key_cmp}
 use Rattle.btree.proofs.Numbers.{front_cmp, first_decides}
 use Rattle.btree.proofs.page.order.order_of.Goals as goal

@@ -14,6 +14,7 @@ use Rattle.btree.specs.Page.{behind_of, item_width, items_of}
 use Rattle.btree.proofs.PutFailing.{passed_on, none_free, write_fails}
 use Rattle.btree.proofs.Listing.{mul-mono, narrow}
 use Rattle.btree.proofs.PutPlacing.{one_contains, take_none, take_more, take_wrote}
+use Rattle.btree.proofs.FreePages.{new_page_takes_one}
 use Rattle.btree.proofs.put.map.on_new_page.Goals as goal
 
 -- few items fit on a page
@@ -124,3 +125,20 @@ returns-clause-items g c =
     λ honest.
     c.in_ok-write_on.ensures.items (still_honest c.in_ok-page.ensures.works.goes_on honest)
     ∙ ap (items_of c.args.widths.key (behind_of c.args.widths c.args.kind) c.args.items.now.count) c.deref.ensures.0
+
+pub returns-in_err-page-clause-takes : goal.returns-in_err-page-clause-takes
+returns-in_err-page-clause-takes g c = omega (arith, ap (λ (s : Store). free_count s.marks) c.in_err-page.ensures.refused)
+
+pub returns-in_err-write_on-clause-takes : goal.returns-in_err-write_on-clause-takes
+returns-in_err-write_on-clause-takes g c =
+    let store = g.P.Pages.store in
+    let got = c.new_page.ensures in
+    let one = new_page_takes_one (store c.args.store.now) (store c.new_page.new.self) c.new_page.result got.ok got.free got.within got.refused in
+    omega (arith, one, ap free_count c.write_on.ensures.marks)
+
+pub returns-clause-takes : goal.returns-clause-takes
+returns-clause-takes g c =
+    let store = g.P.Pages.store in
+    let got = c.new_page.ensures in
+    let one = new_page_takes_one (store c.args.store.now) (store c.new_page.new.self) c.new_page.result got.ok got.free got.within got.refused in
+    omega (arith, one, ap free_count c.write_on.ensures.marks)

@@ -1,6 +1,8 @@
 use Rattle.std.proofs.Common.{◌≡◌, ◌≤◌, ◌<◌, ◌+◌, ◌*◌, ◌-◌, ◌∙◌, ◌∷◌, ◌++◌, [], ℕ, List, length, take, sym, ap, subst, Fits, w64, arith}
 use Rattle.std.proofs.lemmas.List.{length-take}
 use Rattle.byteorder.specs.Endian.{big_bytes}
+use Rattle.page_store.specs.Marks.{free_count}
+use Rattle.page_store.specs.Store.{Store}
 use Rattle.page_store.specs.aid.Works.{works_then}
 use Rattle.btree.specs.declared.page.kind.Kind.{Kind}
 use Rattle.btree.specs.declared.page.kind.Kind.TheVariants.{Leaf, Inner}
@@ -11,6 +13,7 @@ use Rattle.btree.specs.aid.PutItems.{listed, IsCut}
 use Rattle.btree.proofs.PutFailing.{passed_on, none_free, write_fails}
 use Rattle.btree.proofs.Listing.{mul-mono}
 use Rattle.btree.proofs.Writing.{items_parts, leads_back, first_of, rest_is, written_two}
+use Rattle.btree.proofs.FreePages.{new_page_takes_one}
 use Rattle.btree.proofs.put.write.write_two.Goals as goal
 
 some : (kind : Kind) (n : ℕ) → least_of kind ≤ n → 1 ≤ n
@@ -261,3 +264,29 @@ lead_to-requires-2-clause-key g c =
 
 pub write_on-requires-2-clause-enough : goal.write_on-requires-2-clause-enough
 write_on-requires-2-clause-enough g c = c.requires.cut.back_enough
+
+pub returns-in_err-second-clause-takes : goal.returns-in_err-second-clause-takes
+returns-in_err-second-clause-takes g c =
+    let same = ap (λ (s : Store). free_count s.marks) c.in_err-second.ensures.refused in
+    omega (arith, c.renewed.ensures.takes, same)
+
+pub returns-in_err-write_on-clause-takes : goal.returns-in_err-write_on-clause-takes
+returns-in_err-write_on-clause-takes g c =
+    let store = g.P.Pages.store in
+    let got = c.new_page.ensures in
+    let one = new_page_takes_one (store c.renewed.new.store) (store c.new_page.new.self) c.new_page.result got.ok got.free got.within got.refused in
+    omega (arith, c.renewed.ensures.takes, one, ap free_count c.write_on.ensures.marks)
+
+pub returns-in_err-write_on-2-clause-takes : goal.returns-in_err-write_on-2-clause-takes
+returns-in_err-write_on-2-clause-takes g c =
+    let store = g.P.Pages.store in
+    let got = c.new_page.ensures in
+    let one = new_page_takes_one (store c.renewed.new.store) (store c.new_page.new.self) c.new_page.result got.ok got.free got.within got.refused in
+    omega (arith, c.renewed.ensures.takes, one, ap free_count c.write_on.ensures.marks, ap free_count c.write_on-2.ensures.marks)
+
+pub returns-clause-takes : goal.returns-clause-takes
+returns-clause-takes g c =
+    let store = g.P.Pages.store in
+    let got = c.new_page.ensures in
+    let one = new_page_takes_one (store c.renewed.new.store) (store c.new_page.new.self) c.new_page.result got.ok got.free got.within got.refused in
+    omega (arith, c.renewed.ensures.takes, one, ap free_count c.write_on.ensures.marks, ap free_count c.write_on-2.ensures.marks)

@@ -1,8 +1,8 @@
-use Rattle.std.proofs.Common.{◌≡◌, ◌⊎◌, inl, inr, ℕ, ◌≤◌, ◌<◌, length, refl, sym, ◌∙◌, ap, subst, arith}
+use Rattle.std.proofs.Common.{inl, inr, ◌≤◌, ◌<◌, length, refl, sym, ◌∙◌, ap, subst, arith}
 use Rattle.page_store.specs.Store.{Store}
 use Rattle.game_file.specs.declared.fault.FileFault.{FileFault}
 use Rattle.game_file.specs.Faults.{of_pages}
-use Rattle.game_file.specs.Growing.{FileGrowCause, IsGrownFile, IsNotGrown}
+use Rattle.game_file.specs.Growing.{FileGrowCause}
 use Rattle.game_file.specs.State.{count_behind}
 use Rattle.game_file.specs.aid.Growing.{asked_not_grown}
 use Rattle.game_file.specs.Fields.{commits_in}
@@ -10,7 +10,7 @@ use Rattle.tree_table.specs.Held.{StoresTrees}
 use Rattle.tree_table.specs.InTrees.{work_in}
 use Rattle.tree_table.specs.aid.Standing.{still_then}
 use Rattle.tree_table.specs.aid.Versions.{grows_keep_holds, keeps_holds_then}
-use Rattle.tree_file.specs.File.{File, IsWholeFile, file_of, state_of}
+use Rattle.tree_file.specs.File.{file_of, state_of}
 use Rattle.tree_file.specs.InFile.{file_in}
 use Rattle.tree_file.specs.aid.Backed.{IsBackedFile, backed_still}
 use Rattle.tree_file.specs.aid.Frames.{stays_here}

@@ -3,7 +3,7 @@ use Rattle.sector_disk.specs.Disk.{Disk}
 use Rattle.game_file.specs.declared.fault.FileFault.{FileFault}
 use Rattle.game_file.specs.State.{count_behind}
 use Rattle.tree_table.specs.Held.{StoresTrees}
-use Rattle.tree_file.specs.File.{file_of, state_of}
+use Rattle.tree_file.specs.File.{state_of}
 use Rattle.tree_file.specs.InFile.{file_in}
 use Rattle.tree_file.specs.Moving.{IsMoved, IsNotMoved, LeavesPages}
 use Rattle.tree_file.proofs.Renewing.{moved, moved_pages, named_anew, no_goal, not_moved}

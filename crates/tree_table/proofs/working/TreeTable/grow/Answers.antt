@@ -1,4 +1,3 @@
-use Rattle.std.proofs.Common.{ℕ}
 use mathlib.Core.Logic.{∥∥₁_elim, ∥∥₁_prop}
 use Rattle.tree_table.specs.Working.{work_of, HoldsWork}
 use Rattle.tree_table.specs.aid.Standing.{was_honest}

@@ -1,7 +1,6 @@
-use Rattle.std.proofs.Common.{◌≡◌, ◌≤◌, ◌^◌, ℕ, List, length, refl, sym, ◌∙◌, subst, arith, true, false, Option}
+use Rattle.std.proofs.Common.{◌≡◌, ◌≤◌, ◌^◌, ℕ, List, refl, sym, ◌∙◌, subst, arith, true, false, Option}
 use Rattle.btree.specs.declared.find.reader.Reader.{Reader}
 use Rattle.tree_table.specs.Readers.{IsNear}
-use Rattle.std.specs.Option.{IfSome}
 use Rattle.retrograde.specs.Changes.{with_record}
 use Rattle.retrograde.specs.Stored.{Stored}
 use Rattle.tree_table.specs.declared.last.Seen.{Seen}

@@ -2,7 +2,7 @@ use Rattle.std.proofs.Common.{◌≡◌, ◌≤◌, ◌∙◌, ◌∷◌, ◌++�
 use Rattle.btree.specs.declared.page.kind.Kind.TheVariants.{Leaf}
 use Rattle.btree.specs.declared.page.kind.Kind.{Kind}
 use Rattle.btree.specs.Page.{Item, IsPage, behind_of, items_in, items_of}
-use Rattle.btree.specs.Entries.{Ascend, first_key, put_entry}
+use Rattle.btree.specs.Entries.{first_key}
 use Rattle.btree.proofs.InPlace.{first_kept}
 use Rattle.btree.proofs.put.entry.EntryPutPageEdit.apply.Goals as goal
 
