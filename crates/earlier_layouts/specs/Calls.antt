@@ -1,6 +1,5 @@
 -- A file of this layout, by its pages and what is in memory, and what is stated of it.
 use Rattle.std.specs.Prelude.{length, Option}
-use Rattle.page_store.specs.Marks.{free_count}
 use Rattle.page_store.specs.Store.{Store}
 use Rattle.earlier_layouts.specs.Slot.{commits_in}
 use Rattle.game_file.specs.Kept.{counts_kept}
@@ -18,7 +17,6 @@ state_of file = record {
   disk = file.store.disk;
   failures = file.store.failures;
   capacity = length file.store.marks;
-  free = free_count file.store.marks;
   closed = file.store.closed;
   commits = commits_in file.store.root;
   counts = counts_kept (kept_of file.game);

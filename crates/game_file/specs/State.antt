@@ -6,14 +6,13 @@ use Rattle.retrograde.specs.declared.records.Counts.{Counts}
 use Rattle.game_file.specs.Kept.{Kept}
 use Rattle.page_store.specs.declared.limits.TheConstants.{MAX_PAGES}
 
--- its disk, how often that has failed, how many pages there are and how many of them are free, whether a write or a sync has failed since it
--- was opened, how many commits it counts since it was made, and of the last one, if a game is loaded, the counts that the file tells, and the
--- text, the packing, the goal and the table. A page is free that the last commit does not keep, nor anyone who reads an earlier one still
+-- its disk, how often that has failed, how many pages there are, whether a write or a sync has failed since it was opened, how many
+-- commits it counts since it was made, and of the last one, if a game is loaded, the counts that the file tells, and the text, the
+-- packing, the goal and the table
 pub record State : Type 0 where
   pub disk : Disk
   pub failures : ℕ
   pub capacity : ℕ
-  pub free : ℕ
   pub closed : Bool
   pub commits : ℕ
   pub counts : Option Counts

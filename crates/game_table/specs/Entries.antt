@@ -39,6 +39,6 @@ pub record HasAtMostMoves {P : Type 0} (graph : Graph P) (n : ℕ) : Type 0 wher
   pub from : (x : P) → IsReachable graph x → AreAtMost n (λ y. graph.Successor x y)
   pub to : (x : P) → IsReachable graph x → AreAtMost n (λ y. IsReachable graph y × graph.Successor y x)
 
--- no more pages than so many units may take in a game with no more moves than this
+-- so many pages are enough for so many units in a game with no more moves than this
 abbrev pub pages_taken : ℕ → ℕ → ℕ
 pages_taken moves units = PAGES_PER_ENTRY * (units * (3 * moves + 2))

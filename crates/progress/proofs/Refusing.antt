@@ -143,14 +143,14 @@ not_at units kept game why own (other, is_read, sound) also limits stops =
 
 pub work_wants_room_alone : (units : ℕ) (why : SolverFault) (old new : State) (kept : Kept) (game : Game) → Step (work units) old (Refused why) new
     → IsTrue old.disk.honest → old.kept ≡ Some kept → IsSound (Some kept) → Reads kept.text game
-    → IsWithinLimits (graph_in game kept) (wide_in game kept) → WantsRoom units old new why
+    → IsWithinLimits (graph_in game kept) (wide_in game kept) → WantsRoom old new why
 work_wants_room_alone units why old new kept game refused honest is sound is_read limits = go why refused.reason
   where
     at : (step_fault : StepFault) → IsRefusal step_fault → StopsAt units old.kept step_fault → ⊥
     at step_fault own stops =
         not_at units kept game step_fault own sound is_read limits (subst (λ (k : Option Kept). StopsAt units k step_fault) is stops)
 
-    go : (why : SolverFault) → WorkCause units old new why → WantsRoom units old new why
+    go : (why : SolverFault) → WorkCause units old new why → WantsRoom old new why
     go fault.Disk cause = cause
     go fault.Damaged cause = absurd (cause honest)
     go fault.TableFull cause = cause honest

@@ -4,7 +4,7 @@ use Rattle.sector_disk.specs.Disk.{Grew}
 use Rattle.retrograde.specs.Expands.{IsChoice}
 use Rattle.retrograde.specs.Graph.{Graph, IsReachable}
 use Rattle.game_file.specs.State.{State}
-use Rattle.solver.specs.Machine.{IsUnfinished, IsShortOfPages}
+use Rattle.solver.specs.Machine.{IsUnfinished}
 use Rattle.solver.specs.declared.fault.SolverFault.{SolverFault}
 use Rattle.solver.specs.declared.fault.SolverFault.TheVariants.{Disk, TableFull, OutOfMemory, Closed}
 use Rattle.progress.specs.Enough.{HasAtMost}
@@ -15,11 +15,10 @@ pub record IsWithinLimits (graph : Graph (List ℕ)) (IsWide : List ℕ → Type
   pub forced : (x : List ℕ) → IsReachable graph x → ¬ IsChoice graph x
   pub few : HasAtMost graph (2 ^ 24)
 
--- a call of the disk has failed; or something is left to do, and no more pages are free than so many units may take; or memory is short; or
--- the solver was closed
-abbrev pub WantsRoom : ℕ → State → State → SolverFault → Type 0
-WantsRoom units old new Disk = Grew old.failures new.failures
-WantsRoom units old new TableFull = IsUnfinished old.kept × IsShortOfPages units old.free old.kept
-WantsRoom units old new OutOfMemory = Unit {0}
-WantsRoom units old new Closed = old.closed ≡ true
-WantsRoom units old new _ = ⊥
+-- a call of the disk has failed; or no page was free, and something is left to do; or memory is short; or the solver was closed
+abbrev pub WantsRoom : State → State → SolverFault → Type 0
+WantsRoom old new Disk = Grew old.failures new.failures
+WantsRoom old new TableFull = IsUnfinished old.kept
+WantsRoom old new OutOfMemory = Unit {0}
+WantsRoom old new Closed = old.closed ≡ true
+WantsRoom old new _ = ⊥

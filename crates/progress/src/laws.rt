@@ -11,7 +11,7 @@ ghost use Rattle.game_file.specs.State.{State};
 ghost use Rattle.solver.specs.Headline.{SaysWhatIs};
 ghost use Rattle.solver.specs.Held.{Holds, IsSound, graph_in, wide_in};
 ghost use Rattle.solver.specs.Histories.{Sitting, DoAll, History};
-ghost use Rattle.solver.specs.Machine.{Command, Step, work};
+ghost use Rattle.solver.specs.Machine.{Command, IsShortOfPages, Step, work};
 ghost use Rattle.solver.specs.declared.fault.SolverFault.{SolverFault};
 ghost use Rattle.recover.specs.Tables.{BriefTable, TextSays, play_of};
 ghost use Rattle.recover.specs.Brief.{BriefSitting, BriefHistory, BriefHeadline};
@@ -22,7 +22,6 @@ ghost use Rattle.progress.specs.Enough.{HasAtMost, IsSolved, units_asked, units_
 ghost use Rattle.progress.specs.InBrief.{units_for_sittings};
 ghost use Rattle.progress.specs.Limits.{IsWithinLimits, WantsRoom};
 ghost use Rattle.game_table.specs.Entries.{HasAtMostMoves, pages_taken};
-ghost use Rattle.solver.specs.declared.fault.SolverFault.TheVariants.{TableFull};
 ghost use Rattle.witness.specs.Game.{witness_text, witness_game};
 
 use game_file::{GameFile, Versions};
@@ -83,15 +82,14 @@ pub fn it_gets_there_in_brief<S: SavedTable>()
 pub fn work_wants_room_alone()
     ensures { (units : ℕ) (fault : SolverFault) (old new : State) (kept : Kept) (game : Game) → Step (work units) old (Refused fault) new
         → IsTrue old.disk.honest → old.kept ≡ Some kept → IsSound (Some kept) → Reads kept.text game
-        → IsWithinLimits (graph_in game kept) (wide_in game kept) → WantsRoom units old new fault }
+        → IsWithinLimits (graph_in game kept) (wide_in game kept) → WantsRoom old new fault }
 {}
 
-/// In a game of which no more than so many moves lead from a position or to one, `work` on a sound table is refused for want of a page only where no
-/// more than 147 pages for each of these moves and 98 besides were free for each unit that was asked for.
+/// In a game of which no more than so many moves lead from a position or to one, a sound table is short of pages for so many units only where no more
+/// than 147 pages for each of these moves and 98 besides are free for each unit.
 pub fn few_moves_take_few_pages()
-    ensures { (units moves : ℕ) (old new : State) (kept : Kept) (game : Game) → Step (work units) old (Refused TableFull) new
-        → IsTrue old.disk.honest → old.kept ≡ Some kept → IsSound (Some kept) → Reads kept.text game
-        → HasAtMostMoves (graph_in game kept) moves → old.free ≤ pages_taken moves units }
+    ensures { (units free moves : ℕ) (kept : Kept) (game : Game) → IsShortOfPages units free (Some kept) → IsSound (Some kept)
+        → Reads kept.text game → HasAtMostMoves (graph_in game kept) moves → free ≤ pages_taken moves units }
 {}
 
 /// The small game of `witness` is within the limits, and play comes to four of its positions at most.

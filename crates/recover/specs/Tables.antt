@@ -14,6 +14,7 @@ use Rattle.rbg_read.specs.declared.fault.GameFault.TheVariants as game_fault
 use Rattle.legal_moves.specs.Moves.{IsSuccessor, start_of, score}
 use Rattle.legal_moves.specs.Searches.{IsWide}
 use Rattle.legal_moves.specs.Sources.{leader}
+use Rattle.game_table.specs.Entries.{HasAtMostMoves, pages_taken}
 use Rattle.retrograde.specs.Graph.{Graph, IsReachable}
 use Rattle.retrograde.specs.Values.{WonIn, Drawn}
 use Rattle.retrograde.specs.declared.records.Counts.{Counts}
@@ -174,7 +175,19 @@ abbrev pub IsLeftToDo : Option BriefTable → Type 0
 IsLeftToDo None = ⊥
 IsLeftToDo (Some table) = ¬ IsFinished table.view
 
--- why `work` may be refused by a table on an honest disk; of E7 it is not said how few pages are free, and E1 and E8 are not said
+-- a game is loaded, and no more pages are free than 49 * (3 * moves + 2) for each unit, where no more than so many moves lead from a position
+-- that play can come to, or to one
+abbrev pub IsShort : ℕ → ℕ → Option BriefTable → Type 0
+IsShort units free None = ⊥
+IsShort units free (Some table) =
+    (game : Game) (moves : ℕ) → TextSays table.text game → HasAtMostMoves (play_of table.goal game) moves → free ≤ pages_taken moves units
+
+-- so of a command that works
+abbrev pub IsShortFor : Command → ℕ → Option BriefTable → Type 0
+IsShortFor (load text goal) free table = Unit {0}
+IsShortFor (work units) free table = IsShort units free table
+
+-- why `work` may be refused by a table on an honest disk; how few pages are free at E7, the call says besides, and E1 and E8 are not said
 abbrev pub RefusesWork : Option BriefTable → SolverFault → Type 0
 RefusesWork table Disk = Unit {0}
 RefusesWork table OutOfMemory = Unit {0}

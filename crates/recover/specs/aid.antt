@@ -5,6 +5,7 @@ pub mod Finished
 pub mod Telling
 pub mod Histories
 pub mod Limit
+pub mod FewMoves
 pub mod Causes
 pub mod Asking
 pub mod AtWork

@@ -8,7 +8,7 @@ ghost use Rattle.solver.specs.Runs.{command_of};
 ghost use Rattle.solver.specs.Units.{units_in};
 ghost use Rattle.recover.specs.aid.Histories.{calls_of, the_headline_in_brief};
 ghost use Rattle.recover.specs.aid.AtWork.{solver_is_lawful};
-ghost use Rattle.recover.specs.Tables.{BriefTable, TellsValue, TellsText, TellsValueOf, TellsRows, TellsLine, TellsCounts};
+ghost use Rattle.recover.specs.Tables.{BriefTable, IsShort, IsShortFor, TellsValue, TellsText, TellsValueOf, TellsRows, TellsLine, TellsCounts};
 ghost use Rattle.recover.specs.Tables.{of_number, of_line, of_moves, of_text, of_all};
 ghost use Rattle.recover.specs.Brief.{Calls, AreLawful, OfTable, IsReply, IsQuestion, IsAnswered, reply_of, OrBroken};
 ghost use Rattle.recover.specs.Brief.{BriefSitting, BriefHistory, BriefHeadline};
@@ -32,6 +32,9 @@ pub trait SavedTable {
     /// The relations of its calls.
     ghost calls: { Calls Self };
 
+    /// How many of its pages are free.
+    ghost free: { Self → ℕ };
+
     /// Makes the empty table on this disk.
     fn create(alloc: Global, disk: Self::Device) -> Result<Self, Refused<Self::Device>>
         ensures created { IfOk result (calls.created (Self.Device.disk disk)) }
@@ -52,11 +55,15 @@ pub trait SavedTable {
 
     /// Does this many units of work, or fewer where the table is finished by then.
     fn work(&mut self, units: Units) -> Result<Worked, SolverFault>
-        ensures { IsAnswered calls (work_on (units_in units)) (reply_of (λ done. Reply.Worked done.units done.counts) result) self.old self.new };
+        ensures answered { IsAnswered calls (work_on (units_in units)) (reply_of (λ done. Reply.Worked done.units done.counts) result) self.old self.new }
+        ensures full { OfTable calls self.old
+            (λ table. IfErr result (λ fault. fault ≡ SolverFault.TableFull → IsShort (units_in units) (free self.old) table)) };
 
     /// The reply to one command, which is done as `load` and `work` do it: the program makes this call for each command.
     fn answer(&mut self, command: &Command) -> Reply
-        ensures { IsAnswered calls (command_of command.now) result self.old self.new };
+        ensures answered { IsAnswered calls (command_of command.now) result self.old self.new }
+        ensures full { OfTable calls self.old
+            (λ table. result ≡ Reply.Refused SolverFault.TableFull → IsShortFor (command_of command.now) (free self.old) table) };
 
     /// How far the table is; none where no game is loaded.
     fn status(&self) -> Option<Counts>
@@ -65,6 +72,10 @@ pub trait SavedTable {
     /// How many pages the table has.
     fn capacity(&self) -> u32
         ensures { result ≡ calls.pages self.now };
+
+    /// How many of them are free.
+    fn free_pages(&self) -> u32
+        ensures { result ≡ free self.now };
 
     /// Who wins the position with this number, and in how many moves.
     fn value(&mut self, number: u32) -> Result<Value, SolverFault>
@@ -156,6 +167,8 @@ impl<F: GameFile> SavedTable for FileSolver<F> {
 
     ghost calls = { calls_of F.stores state IsReady };
 
+    ghost free = { λ solver. F.free solver.file };
+
     ghost lawful = { solver_is_lawful F.stores state IsReady };
 
     ghost headline = { the_headline_in_brief F.stores state IsReady F.stores_begins };
@@ -186,6 +199,10 @@ impl<F: GameFile> SavedTable for FileSolver<F> {
 
     fn capacity(&self) -> u32 {
         FileSolver::capacity(self)
+    }
+
+    fn free_pages(&self) -> u32 {
+        FileSolver::free_pages(self)
     }
 
     fn value(&mut self, number: u32) -> Result<Value, SolverFault> {

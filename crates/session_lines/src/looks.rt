@@ -39,7 +39,7 @@ pub fn put_looked<F: GameFile, W: Write, E: Write>(
         × AppendsPart (W.contents out.old) (W.contents out.new) line) }
     ensures noted { noted_in moments.new ≡ noted_in moments.old ++ (solver.new, out.old) ∷ [] }
     ensures pages { asked.entry ≡ Asked.Pages → OnOk result (Appends (W.contents out.old) (W.contents out.new)
-        (pages_line (state solver.old).capacity (state solver.old).free)) }
+        (pages_line (state solver.old).capacity (F.free solver.old.file))) }
 {
     match asked {
         Asked::Work(_) | Asked::Listing(_) => {

@@ -52,7 +52,7 @@ pub fn put_answer<F: GameFile, W: Write, E: Write>(
         × AppendsPart (W.contents out.old) (W.contents out.new) line) }
     ensures noted { noted_in moments.new ≡ noted_in moments.old ++ (solver.new, out.old) ∷ [] }
     ensures pages { asked.entry ≡ Asked.Pages → OnOk result (Appends (W.contents out.old) (W.contents out.new)
-        (pages_line (state solver.old).capacity (state solver.old).free)) }
+        (pages_line (state solver.old).capacity (F.free solver.old.file))) }
 {
     match asked {
         Asked::Work(units) => put_worked(solver, units, out, told, moments),
@@ -82,7 +82,7 @@ fn put_plain<F: GameFile, W: Write, E: Write>(
         × IsReplied F.stores asked.entry (state solver.now) (state solver.now) status line
         × AppendsPart (W.contents out.old) (W.contents out.new) line) }
     ensures pages { asked.entry ≡ Asked.Pages → OnOk result (Appends (W.contents out.old) (W.contents out.new)
-        (pages_line (state solver.now).capacity (state solver.now).free)) }
+        (pages_line (state solver.now).capacity (F.free solver.now.file))) }
 {
     match asked {
         Asked::Nothing | Asked::Quit => Ok(0),

@@ -69,14 +69,6 @@ pub unfinished_on : (source : Compiled) (k : Kept) (stored : Stored (List ℕ)) 
 unfinished_on source k stored same unfinished =
     subst (λ (t : Stored (List ℕ)). IsLocallySound (graph_of (packing_kind source) (compiled_goal source) (compiled_game source)) (IsWideAt (packing_kind source) (compiled_game source)) t → IsFinished (view_of t) → ⊥) same unfinished
 
-pub wants_on : (source : Compiled) (k : Kept) (stored : Stored (List ℕ)) → stored ≡ k.table → (units count free pages : ℕ) → count ≡ units → free ≡ pages
-    → (IsLocallySound (graph_of (packing_kind source) (compiled_goal source) (compiled_game source)) (IsWideAt (packing_kind source) (compiled_game source)) stored → WantsPages (graph_of (packing_kind source) (compiled_goal source) (compiled_game source)) (IsWideAt (packing_kind source) (compiled_game source)) stored count free)
-    → IsLocallySound (graph_of (packing_kind source) (compiled_goal source) (compiled_game source)) (IsWideAt (packing_kind source) (compiled_game source)) k.table → WantsPages (graph_of (packing_kind source) (compiled_goal source) (compiled_game source)) (IsWideAt (packing_kind source) (compiled_game source)) k.table units pages
-wants_on source k stored same units count free pages counted are wants =
-    subst (λ (n : ℕ). IsLocallySound (graph_of (packing_kind source) (compiled_goal source) (compiled_game source)) (IsWideAt (packing_kind source) (compiled_game source)) k.table → WantsPages (graph_of (packing_kind source) (compiled_goal source) (compiled_game source)) (IsWideAt (packing_kind source) (compiled_game source)) k.table units n) are
-    (subst (λ (n : ℕ). IsLocallySound (graph_of (packing_kind source) (compiled_goal source) (compiled_game source)) (IsWideAt (packing_kind source) (compiled_game source)) k.table → WantsPages (graph_of (packing_kind source) (compiled_goal source) (compiled_game source)) (IsWideAt (packing_kind source) (compiled_game source)) k.table n free) counted
-    (subst (λ (t : Stored (List ℕ)). IsLocallySound (graph_of (packing_kind source) (compiled_goal source) (compiled_game source)) (IsWideAt (packing_kind source) (compiled_game source)) t → WantsPages (graph_of (packing_kind source) (compiled_goal source) (compiled_game source)) (IsWideAt (packing_kind source) (compiled_game source)) t count free) same wants))
-
 module _ (source : Compiled) (k : Kept) (made : IsMadeOf source k) where
   -- what holds of the source's game holds of any that the text read to
   pub of_any : (P : PackingKind → Option ℕ → Game → Type 0) (game : Game) → Reads k.text game
@@ -243,14 +235,6 @@ module _ (Stores : ℕ → Layout) (old new : State) (source : Compiled) (k : Ke
   other_origin : (IsTrue old.disk.honest → IsLocallySound (graph_of (packing_kind source) (compiled_goal source) (compiled_game source)) (IsWideAt (packing_kind source) (compiled_game source)) k.table → ⊥) → IsTrue old.disk.honest → IsSound old.kept → ⊥
   other_origin consistent honest sound = consistent honest (sound_here source k made (subst (λ (kept : Option Kept). IsSound kept) loaded sound))
 
-  short_there : (IsTrue old.disk.honest → IsLocallySound (graph_of (packing_kind source) (compiled_goal source) (compiled_game source)) (IsWideAt (packing_kind source) (compiled_game source)) k.table → WantsPages (graph_of (packing_kind source) (compiled_goal source) (compiled_game source)) (IsWideAt (packing_kind source) (compiled_game source)) k.table units old.free)
-      → IsTrue old.disk.honest → IsShortOfPages units old.free old.kept
-  short_there wants honest =
-      subst (λ (kept : Option Kept). IsShortOfPages units old.free kept) (sym loaded)
-      (λ game read sound.
-      of_any source k made (λ p w g. WantsPages (graph_of p w g) (IsWideAt p g) k.table units old.free) game read
-      (wants honest (to_source source k made (λ p w g. IsLocallySound (graph_of p w g) (IsWideAt p g) k.table) game read sound)))
-
   unfinished_there : (IsTrue old.disk.honest → IsLocallySound (graph_of (packing_kind source) (compiled_goal source) (compiled_game source)) (IsWideAt (packing_kind source) (compiled_game source)) k.table
       → IsFinished (view_of k.table) → ⊥) → IsTrue old.disk.honest → IsUnfinished old.kept
   unfinished_there unfinished honest =
@@ -262,33 +246,30 @@ module _ (Stores : ℕ → Layout) (old new : State) (source : Compiled) (k : Ke
     work_cause : (fault : StepFault)
         → (IsTrue old.disk.honest → IsLocallySound (graph_of (packing_kind source) (compiled_goal source) (compiled_game source)) (IsWideAt (packing_kind source) (compiled_game source)) k.table → StopsWith (graph_of (packing_kind source) (compiled_goal source) (compiled_game source)) (IsWideAt (packing_kind source) (compiled_game source)) k.table units fault)
         → (IsTrue old.disk.honest → IsLocallySound (graph_of (packing_kind source) (compiled_goal source) (compiled_game source)) (IsWideAt (packing_kind source) (compiled_game source)) k.table → fault ≡ step.Inconsistent → ⊥)
-        → (fault ≡ step.Table table.TableFull → IsTrue old.disk.honest → IsLocallySound (graph_of (packing_kind source) (compiled_goal source) (compiled_game source)) (IsWideAt (packing_kind source) (compiled_game source)) k.table → WantsPages (graph_of (packing_kind source) (compiled_goal source) (compiled_game source)) (IsWideAt (packing_kind source) (compiled_game source)) k.table units old.free)
         → LeavesUnit Ahead Fails fault → WorkCause units old new (step_fault fault)
-    work_cause step.TooWide cause consistent wants left = stops_at step.TooWide cause
-    work_cause (step.KeeperChooses number) cause consistent wants left = stops_at (step.KeeperChooses number) cause
-    work_cause step.TooManyPositions cause consistent wants left = stops_at step.TooManyPositions cause
-    work_cause step.Inconsistent cause consistent wants left = other_origin (λ honest sound. consistent honest sound refl)
-    work_cause step.OutOfMemory cause consistent wants left = tt
-    work_cause (step.Table fault) cause consistent wants left = by_fault fault (λ is. wants (ap step.Table is)) (cause_of fault left)
+    work_cause step.TooWide cause consistent left = stops_at step.TooWide cause
+    work_cause (step.KeeperChooses number) cause consistent left = stops_at (step.KeeperChooses number) cause
+    work_cause step.TooManyPositions cause consistent left = stops_at step.TooManyPositions cause
+    work_cause step.Inconsistent cause consistent left = other_origin (λ honest sound. consistent honest sound refl)
+    work_cause step.OutOfMemory cause consistent left = tt
+    work_cause (step.Table fault) cause consistent left = by_fault fault (cause_of fault left)
       where
-        by_fault : (f : TableFault) → (f ≡ table.TableFull → IsTrue old.disk.honest → IsLocallySound (graph_of (packing_kind source) (compiled_goal source) (compiled_game source)) (IsWideAt (packing_kind source) (compiled_game source)) k.table → WantsPages (graph_of (packing_kind source) (compiled_goal source) (compiled_game source)) (IsWideAt (packing_kind source) (compiled_game source)) k.table units old.free)
-            → FileTableCause old new f → WorkCause units old new (table_fault f)
-        by_fault table.Disk wants cause = cause
-        by_fault table.Damaged wants cause = cause
-        by_fault table.TableFull wants cause = λ honest. (unfinished_there unfinished honest, short_there (wants refl) honest)
-        by_fault table.OutOfMemory wants cause = tt
-        by_fault table.Closed wants cause = cause
+        by_fault : (f : TableFault) → FileTableCause old new f → WorkCause units old new (table_fault f)
+        by_fault table.Disk cause = cause
+        by_fault table.Damaged cause = cause
+        by_fault table.TableFull cause = unfinished_there unfinished
+        by_fault table.OutOfMemory cause = tt
+        by_fault table.Closed cause = cause
 
     -- units are refused, and the command is given up
     pub work_refused : (fault : StepFault)
         → (IsTrue old.disk.honest → IsLocallySound (graph_of (packing_kind source) (compiled_goal source) (compiled_game source)) (IsWideAt (packing_kind source) (compiled_game source)) k.table → StopsWith (graph_of (packing_kind source) (compiled_goal source) (compiled_game source)) (IsWideAt (packing_kind source) (compiled_game source)) k.table units fault)
         → (IsTrue old.disk.honest → IsLocallySound (graph_of (packing_kind source) (compiled_goal source) (compiled_game source)) (IsWideAt (packing_kind source) (compiled_game source)) k.table → fault ≡ step.Inconsistent → ⊥)
-        → (fault ≡ step.Table table.TableFull → IsTrue old.disk.honest → IsLocallySound (graph_of (packing_kind source) (compiled_goal source) (compiled_game source)) (IsWideAt (packing_kind source) (compiled_game source)) k.table → WantsPages (graph_of (packing_kind source) (compiled_goal source) (compiled_game source)) (IsWideAt (packing_kind source) (compiled_game source)) k.table units old.free)
         → LeavesUnit Ahead Fails fault → old.closed ≡ false → IsNothingPut Stores old new
         → (Ahead → new.closed ≡ old.closed) → ((f : TableFault) → Fails f → f ≢ table.Disk → new.closed ≡ old.closed)
         → IsRefused Stores (work units) old new (step_fault fault)
-    work_refused fault cause consistent wants left is_open given back failed = record {
-      step = record { does = given.kept; reason = work_cause fault cause consistent wants left };
+    work_refused fault cause consistent left is_open given back failed = record {
+      step = record { does = given.kept; reason = work_cause fault cause consistent left };
       stops = record {
         commits = given.commits;
         counts = given.counts;
@@ -309,6 +290,49 @@ module _ (Stores : ℕ → Layout) (old new : State) (source : Compiled) (k : Ke
         by_fault step.Inconsistent left other = back left
         by_fault step.OutOfMemory left other = back left
         by_fault (step.Table f) left other = failed f left (λ is. other (ap table_fault is))
+
+-- no page was free, of the pages that the units may take
+pub short_of_pages : (source : Compiled) (k : Kept) → IsMadeOf source k → (kept : Option Kept) → kept ≡ Some k → (stored : Stored (List ℕ)) → stored ≡ k.table
+    → (units count free : ℕ) → count ≡ units → (IsLocallySound (graph_of (packing_kind source) (compiled_goal source) (compiled_game source)) (IsWideAt (packing_kind source) (compiled_game source)) stored → WantsPages (graph_of (packing_kind source) (compiled_goal source) (compiled_game source)) (IsWideAt (packing_kind source) (compiled_game source)) stored count free)
+    → IsShortOfPages units free kept
+short_of_pages source k made kept loaded stored same units count free counted wants =
+    subst (λ (o : Option Kept). IsShortOfPages units free o) (sym loaded)
+    (λ game read sound.
+    of_any source k made (λ p w g. WantsPages (graph_of p w g) (IsWideAt p g) k.table units free) game read
+    (subst (λ (n : ℕ). WantsPages (graph_of (packing_kind source) (compiled_goal source) (compiled_game source)) (IsWideAt (packing_kind source) (compiled_game source)) k.table n free) counted
+    (subst (λ (t : Stored (List ℕ)). IsLocallySound (graph_of (packing_kind source) (compiled_goal source) (compiled_game source)) (IsWideAt (packing_kind source) (compiled_game source)) t → WantsPages (graph_of (packing_kind source) (compiled_goal source) (compiled_game source)) (IsWideAt (packing_kind source) (compiled_game source)) t count free) same wants
+    (to_source source k made (λ p w g. IsLocallySound (graph_of p w g) (IsWideAt p g) k.table) game read sound))))
+
+-- the fault of a unit is E7 where no page was free for the table
+pub full_unit : (fault : StepFault) → step_fault fault ≡ solver.TableFull → fault ≡ step.Table table.TableFull
+full_unit step.TooWide is = let no : solver.TooWide ≡ solver.TableFull = is in cc
+full_unit (step.KeeperChooses number) is = let no : solver.KeeperChooses number ≡ solver.TableFull = is in cc
+full_unit step.TooManyPositions is = let no : solver.TooManyPositions ≡ solver.TableFull = is in cc
+full_unit step.Inconsistent is = let no : solver.Inconsistent ≡ solver.TableFull = is in cc
+full_unit step.OutOfMemory is = let no : solver.OutOfMemory ≡ solver.TableFull = is in cc
+full_unit (step.Table table.Disk) is = let no : solver.Disk ≡ solver.TableFull = is in cc
+full_unit (step.Table table.Damaged) is = let no : solver.Damaged ≡ solver.TableFull = is in cc
+full_unit (step.Table table.TableFull) is = refl
+full_unit (step.Table table.OutOfMemory) is = let no : solver.OutOfMemory ≡ solver.TableFull = is in cc
+full_unit (step.Table table.Closed) is = let no : solver.Closed ≡ solver.TableFull = is in cc
+
+-- a commit is never refused for want of a page
+pub commit_not_full : (was now : Stored (List ℕ)) (old new : State) (fault : FileFault) → FileCommitCause was now old new fault
+    → file_fault fault ≡ solver.TableFull → ⊥
+commit_not_full was now old new file.Disk cause is = let no : solver.Disk ≡ solver.TableFull = is in cc
+commit_not_full was now old new file.NotATable cause is = absurd cause
+commit_not_full was now old new file.AlreadyATable cause is = absurd cause
+commit_not_full was now old new file.Damaged cause is = let no : solver.Damaged ≡ solver.TableFull = is in cc
+commit_not_full was now old new file.OldLayout cause is = absurd cause
+commit_not_full was now old new file.TooSmall cause is = absurd cause
+commit_not_full was now old new file.TableFull cause is = absurd cause
+commit_not_full was now old new file.OutOfMemory cause is = absurd cause
+commit_not_full was now old new file.Closed cause is = let no : solver.Closed ≡ solver.TableFull = is in cc
+commit_not_full was now old new file.Inconsistent cause is = let no : solver.Inconsistent ≡ solver.TableFull = is in cc
+
+-- no question is refused for want of a page
+pub asked_not_full : (state : State) (fault : SolverFault) → AskCause state state fault → fault ≡ solver.TableFull → ⊥
+asked_not_full state fault cause is = subst (λ (f : SolverFault). AskCause state state f) is cause
 
 -- what forbids a question forbids work
 pub asked_work : (units : ℕ) (state : State) (fault : SolverFault) → AskCause state state fault → WorkCause units state state fault

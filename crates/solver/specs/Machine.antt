@@ -99,11 +99,16 @@ IsShortOfPages units free (Some kept) =
     (game : Game) → Reads kept.text game → IsLocallySound (graph_in game kept) (wide_in game kept) kept.table
     → WantsPages (graph_in game kept) (wide_in game kept) kept.table units free
 
--- why `work` is refused
+-- so of a command that works
+abbrev pub IsCommandShort : Command → ℕ → Option Kept → Type 0
+IsCommandShort (load text goal) free kept = Unit {0}
+IsCommandShort (work units) free kept = IsShortOfPages units free kept
+
+-- why `work` is refused; how few pages are free then, `full` of the call says
 abbrev pub WorkCause : ℕ → State → State → SolverFault → Type 0
 WorkCause units old new Disk = Grew old.failures new.failures
 WorkCause units old new Damaged = ¬ IsTrue old.disk.honest
-WorkCause units old new TableFull = IsTrue old.disk.honest → IsUnfinished old.kept × IsShortOfPages units old.free old.kept
+WorkCause units old new TableFull = IsTrue old.disk.honest → IsUnfinished old.kept
 WorkCause units old new OutOfMemory = Unit {0}
 WorkCause units old new Closed = old.closed ≡ true
 WorkCause units old new NoGame = old.kept ≡ None

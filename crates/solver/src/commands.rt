@@ -10,7 +10,7 @@ ghost use Rattle.game_file.specs.State.{GoesAhead};
 ghost use Rattle.game_file.specs.Stops.{LeavesNow};
 ghost use Rattle.solver.specs.Headline.{IsUnlucky};
 ghost use Rattle.solver.specs.Held.{Holds, IsSound};
-ghost use Rattle.solver.specs.Machine.{load as load_it, work as work_on, LoadCause};
+ghost use Rattle.solver.specs.Machine.{load as load_it, work as work_on, LoadCause, IsShortOfPages};
 ghost use Rattle.solver.specs.Opening.{IsOpened, IsCreated, OpenCause, LayoutCause, CreateCause};
 ghost use Rattle.solver.specs.Steps.{IsDone, IsRefused};
 ghost use Rattle.solver.specs.Units.{units_in};
@@ -171,6 +171,9 @@ impl<F: GameFile> FileSolver<F> {
             → (state self.old).kept ≡ None
             → IsErrOf result SolverFault.NoGame × (self.new ≡ self.old) }
         ensures idle { IfOk result (λ done. done.units ≡ 0 → self.new ≡ self.old) }
+        ensures full { IsReady self.old → IsTrue (state self.old).disk.honest
+            → IfErr result (λ fault. fault ≡ SolverFault.TableFull
+            → IsShortOfPages (units_in units) (F.free self.old.file) (state self.old).kept) }
         ensures sound { IsReady self.old → IsTrue (state self.old).disk.honest
             → IsSound (state self.old).kept
             → IsSound (state self.new).kept }

@@ -21,7 +21,7 @@ impl<F: GameFile> FileSolver<F> {
 
     /// How many of them are free: so many may be taken before E7. It takes no memory and always answers, of a closed solver too.
     pub fn free_pages(&self) -> u32
-        ensures told { result ≡ (state self.now).free }
+        ensures told { result ≡ F.free self.now.file }
         ensures used { IsReady self.now → result < (state self.now).capacity }
         ensures empty { IsReady self.now → (state self.now).closed ≡ false → (state self.now).kept ≡ None
             → (state self.now).capacity ≡ result + 1 }

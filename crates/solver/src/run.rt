@@ -2,6 +2,7 @@
 ghost use Rattle.std.specs.Prelude.{◌≡◌, ◌+◌, ◌++◌, true, false, List, [], length, map, IsTrue, IsOk, OnOk, OnErr, IfErr};
 ghost use Rattle.solver.specs.Headline.{LeavesAPrefix};
 ghost use Rattle.solver.specs.Held.{IsSound};
+ghost use Rattle.solver.specs.Machine.{IsCommandShort};
 ghost use Rattle.solver.specs.Runs.{command_of, IsTurnWithCause, IsRun};
 ghost use Rattle.game_file.specs.State.{GoesAhead};
 ghost use Rattle.solver.specs.Solvers.{state, IsReady};
@@ -18,6 +19,8 @@ impl<F: GameFile> FileSolver<F> {
         ensures turn { IsReady self.old
             → IsTurnWithCause F.stores (command_of command.now) result (state self.old) (state self.new) }
         ensures closed { (state self.old).closed ≡ true → (result ≡ Reply.Refused SolverFault.Closed) × (self.new ≡ self.old) }
+        ensures full { IsReady self.old → IsTrue (state self.old).disk.honest → result ≡ Reply.Refused SolverFault.TableFull
+            → IsCommandShort (command_of command.now) (F.free self.old.file) (state self.old).kept }
         ensures sound { IsReady self.old → IsTrue (state self.old).disk.honest
             → IsSound (state self.old).kept
             → IsSound (state self.new).kept }

@@ -44,7 +44,6 @@ state_of file = record {
   disk = file.work.store.disk;
   failures = file.work.store.failures;
   capacity = length file.work.store.marks;
-  free = free_count file.work.store.marks;
   closed = file.work.store.closed;
   commits = commits_in file.work.store.root;
   counts = counts_told file.game;

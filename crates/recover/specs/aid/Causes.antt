@@ -18,17 +18,20 @@ use Rattle.retrograde.specs.Stored.{Stored, view_of, expanded_count}
 use Rattle.retrograde.specs.View.{HasNumber}
 use Rattle.retrograde.proofs.Sound.{sound_right}
 use Rattle.frontier.specs.declared.fault.StepFault.TheVariants as step
+use Rattle.game_table.specs.Entries.{HasAtMostMoves}
 use Rattle.game_table.specs.aid.Laws.{starts_are_positions, sound_tables_fit}
+use Rattle.game_table.specs.aid.Pages.{wants_few}
 use Rattle.game_file.specs.Kept.{Kept}
 use Rattle.game_file.specs.State.{State}
 use Rattle.solver.specs.Held.{IsSound, graph_in, wide_in}
-use Rattle.solver.specs.Machine.{Command, load, work, LoadCause, WorkCause, IsUnfinished, StopsAt, HasReason}
+use Rattle.solver.specs.Machine.{Command, load, work, LoadCause, WorkCause, IsUnfinished, IsShortOfPages, IsCommandShort, StopsAt, HasReason}
 use Rattle.solver.specs.declared.fault.SolverFault.{SolverFault}
 use Rattle.solver.specs.declared.fault.SolverFault.TheVariants.{Disk, NotATable, AlreadyATable, Damaged, OldLayout, TooSmall, TableFull, OutOfMemory, Closed, Game as BadGame}
 use Rattle.solver.specs.declared.fault.SolverFault.TheVariants.{NoGame, GameAlready, KeeperChooses, TooWide, TooManyPositions, Inconsistent, NoSuchPosition, NotSettled, ListingsUsedUp, BadPosition}
 use Rattle.solver.specs.declared.replies.Reply.TheVariants.{Refused}
-use Rattle.recover.specs.Tables.{BriefTable, play_of, ComesTo, ComesToMore, KeeperHasChoice, IsLeftToDo, RefusesText, RefusesWork, to_do, MayRefuse}
+use Rattle.recover.specs.Tables.{BriefTable, play_of, ComesTo, ComesToMore, KeeperHasChoice, IsLeftToDo, IsShort, IsShortFor, RefusesText, RefusesWork, to_do, MayRefuse}
 use Rattle.recover.specs.aid.Telling.{IsToldBy, brief_of, brief_is_so, finished_up}
+use Rattle.recover.specs.aid.FewMoves.{few_down}
 use Rattle.recover.specs.aid.Limit.{comes_to_more}
 use Rattle.recover.specs.aid.Plays.{step_down, reached_down}
 
@@ -113,6 +116,25 @@ left_told None table told left = absurd left
 left_told (Some kept) table (sound, is) left =
     subst (λ (t : Option BriefTable). IsLeftToDo t) (sym is) (λ finished. left sound (finished_up kept sound finished))
 
+-- too few pages are free for so many units, in both
+pub short_told : (kept : Option Kept) (table : Option BriefTable) → IsToldBy kept table → (units free : ℕ) → IsShortOfPages units free kept
+    → IsShort units free table
+unfolding brief_of
+short_told None table told units free short = absurd short
+short_told (Some kept) table ((game, is_read, local), is) units free short =
+    subst (λ (t : Option BriefTable). IsShort units free t) (sym is)
+    (λ other moves says few.
+    let one : other ≡ game = (brief_is_so kept (game, is_read, local)).only other says in
+    let few_of_it : HasAtMostMoves (play_of kept.goal game) moves = subst (λ (g : Game). HasAtMostMoves (play_of kept.goal g) moves) one few in
+    wants_few (graph_in game kept) (wide_in game kept) moves (few_down kept.packing kept.goal game (read_sound kept.text game is_read) moves few_of_it)
+    kept.table units free (short game is_read local))
+
+-- so for a command
+pub short_for_told : (command : Command) (kept : Option Kept) (table : Option BriefTable) → IsToldBy kept table → (free : ℕ)
+    → IsCommandShort command free kept → IsShortFor command free table
+short_for_told (load text goal) kept table told free short = tt
+short_for_told (work units) kept table told free short = short_told kept table told units free short
+
 pub open_not_shut : (closed : Bool) → closed ≡ false → closed ≡ true → ⊥
 open_not_shut closed is_open shut = let both : false ≡ true = sym is_open ∙ shut in cc
 
@@ -146,7 +168,7 @@ module _ (old new : State) (table : Option BriefTable) (told : IsToldBy old.kept
   why_work units Damaged cause = absurd (cause honest)
   why_work units OldLayout cause = absurd cause
   why_work units TooSmall cause = absurd cause
-  why_work units TableFull cause = left_told old.kept table told (cause honest).0
+  why_work units TableFull cause = left_told old.kept table told (cause honest)
   why_work units OutOfMemory cause = tt
   why_work units Closed cause = absurd (open_not_shut old.closed is_open cause)
   why_work units (BadGame fault) cause = absurd cause

@@ -1,6 +1,21 @@
-use Rattle.std.proofs.Common.{refl}
+use Rattle.std.proofs.Common.{◌≡◌, ℕ, refl}
+use Rattle.solver.specs.declared.fault.SolverFault.{SolverFault}
+use Rattle.solver.specs.declared.fault.SolverFault.TheVariants.{TableFull}
+use Rattle.solver.specs.declared.replies.Reply.{Reply}
+use Rattle.solver.specs.declared.replies.Reply.TheVariants.{Loaded, Worked, Refused}
+use Rattle.retrograde.specs.declared.records.Counts.{Counts}
 use Rattle.solver.proofs.Turning.{done_turn, refused_turn}
 use Rattle.solver.proofs.commands.FileSolver.answer.Goals as goal
+
+-- what is refused is refused by its own fault, and what is done is not refused
+its_fault : (fault told : SolverFault) → Refused fault ≡ Refused told → fault ≡ told
+its_fault fault told is = cc
+
+not_loaded : (told : SolverFault) → Loaded ≡ Refused told → ⊥
+not_loaded told is = cc
+
+not_worked : (told : SolverFault) (units : ℕ) (counts : Counts) → Worked units counts ≡ Refused told → ⊥
+not_worked told units counts is = cc
 
 pub returns-in-Ok-clause-turn : goal.returns-in-Ok-clause-turn
 returns-in-Ok-clause-turn g c = λ ready.
@@ -20,3 +35,15 @@ pub returns-in-Err-work-clause-turn : goal.returns-in-Err-work-clause-turn
 returns-in-Err-work-clause-turn g c = λ ready.
     rw c.in-Work.is
     (refused_turn _ _ _ _ c.work.ensures.ahead _ (c.in-Err-work.ensures.refused ready) (λ was. let it = (c.in-Err-work.ensures.closed was).0 in let same = (c.in-Err-work.ensures.closed was).1 in (cc, rw same refl)))
+
+pub returns-in-Ok-clause-full : goal.returns-in-Ok-clause-full
+returns-in-Ok-clause-full g c = λ ready honest is. absurd (not_loaded _ is)
+
+pub returns-in-Err-clause-full : goal.returns-in-Err-clause-full
+returns-in-Err-clause-full g c = λ ready honest is. rw c.in-Load.is tt
+
+pub returns-in-Ok-work-clause-full : goal.returns-in-Ok-work-clause-full
+returns-in-Ok-work-clause-full g c = λ ready honest is. absurd (not_worked _ _ _ is)
+
+pub returns-in-Err-work-clause-full : goal.returns-in-Err-work-clause-full
+returns-in-Err-work-clause-full g c = λ ready honest is. rw c.in-Work.is (c.in-Err-work.ensures.full ready honest (its_fault _ _ is))

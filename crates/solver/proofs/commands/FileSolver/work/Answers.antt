@@ -6,7 +6,7 @@ use Rattle.solver.proofs.Loading.{same_source, source_of_text}
 use Rattle.solver.proofs.Passing.{passed_on, passed_as, gives_none, not_refused}
 use Rattle.solver.proofs.Refusing.{nothing_done}
 use Rattle.solver.proofs.Turning.{ahead_then}
-use Rattle.solver.proofs.Working.{kept_there, works_on, stops_on, unfinished_on, wants_on, worked_done, kept_sound, not_kept, idle_done, given_up, left_so, work_refused, asked_work}
+use Rattle.solver.proofs.Working.{kept_there, short_of_pages, full_unit, commit_not_full, asked_not_full, works_on, stops_on, unfinished_on, worked_done, kept_sound, not_kept, idle_done, given_up, left_so, work_refused, asked_work}
 use Rattle.solver.proofs.commands.FileSolver.work.Goals as goal
 
 -- no unit is done
@@ -37,9 +37,6 @@ returns-in-Err-clause-refused g c = λ ready.
     (λ honest sound inconsistent.
     let stored = g.met.F.GameFile.whole_stored file k ready.0 honest is in
     c.in-Err.ensures.consistent stored.0 (rw stored.1 sound) (ap (λ (f : StepFault). Err f) inconsistent))
-    (λ full honest. let stored = g.met.F.GameFile.whole_stored file k ready.0 honest is in
-    wants_on c.in_ok-source.source.now k _ stored.1 _ _ _ _ c.count.ensures.is (sym (g.met.F.GameFile.free_is file))
-    (λ sound. c.in-Err.ensures.full stored.0 sound (ap (λ (f : StepFault). Err f) full)))
     c.in-Err.ensures.left c.in_ok-source.ensures.open given.1
     (λ ahead. (c.discard.ensures.back file ready.0 ahead).2) (λ f fails other. c.discard.ensures.still file f ready.0 fails other))
 
@@ -245,3 +242,31 @@ returns-in_ok-commit-clause-lasts g c = g.met.F.GameFile.lasts_then c.args.self.
 
 pub returns-else-done-gt0-clause-lasts : goal.returns-else-done-gt0-clause-lasts
 returns-else-done-gt0-clause-lasts g c = g.met.F.GameFile.goes_on_lasts c.args.self.now.file c.work.new.table c.in-Ok.ensures.ahead
+
+pub returns-in-Err-clause-full : goal.returns-in-Err-clause-full
+returns-in-Err-clause-full g c = λ ready honest full.
+    let file = c.args.self.now.file in
+    let (k, is, made) = kept_there c.in_ok-source.source.now _ (subst (λ (o : Option Compiled). IsSourceOf o (g.F.GameFile.state file).kept) c.in_ok-source.ensures.game ready.1) in
+    let stored = g.met.F.GameFile.whole_stored file k ready.0 honest is in
+    let unit = full_unit c.in-Err.fault (sym c.into.ensures ∙ full) in
+    short_of_pages c.in_ok-source.source.now k made _ is _ stored.1 _ _ _ c.count.ensures.is
+    (λ sound. c.in-Err.ensures.full stored.0 sound (ap (λ (f : StepFault). Err f) unit))
+
+pub returns-in_err-commit-clause-full : goal.returns-in_err-commit-clause-full
+returns-in_err-commit-clause-full g c = λ ready honest.
+    let file = c.args.self.now.file in
+    let (k, is, made) = kept_there c.in_ok-source.source.now _ (subst (λ (o : Option Compiled). IsSourceOf o (g.F.GameFile.state file).kept) c.in_ok-source.ensures.game ready.1) in
+    passed_on _ c.from_residual-in_err-commit.result _ c.from_residual-in_err-commit.ensures
+    (λ full. absurd (commit_not_full k.table (g.F.Table.stored c.work.new.table) (g.F.GameFile.state file) (g.F.GameFile.state c.commit.new.self) _
+    (c.in_err-commit.ensures.cause file k ready.0 is c.in-Ok.ensures.ahead) full))
+
+pub returns-in_err-source-clause-full : goal.returns-in_err-source-clause-full
+returns-in_err-source-clause-full g c = λ ready honest.
+    passed_on _ c.from_residual.result _ c.from_residual.ensures
+    (λ full. absurd (asked_not_full (g.F.GameFile.state c.args.self.now.file) _ (c.in_err-source.ensures.cause ready.1) full))
+
+pub returns-in_ok-commit-clause-full : goal.returns-in_ok-commit-clause-full
+returns-in_ok-commit-clause-full g c = λ ready honest. tt
+
+pub returns-else-done-gt0-clause-full : goal.returns-else-done-gt0-clause-full
+returns-else-done-gt0-clause-full g c = λ ready honest. tt
