@@ -4,8 +4,7 @@ use Rattle.tree_file.specs.File.{file_of}
 use Rattle.tree_table.specs.InTrees.{work_in}
 use Rattle.tree_table.specs.Working.{WorkGoesOn, WorkFails}
 use Rattle.tree_file.specs.aid.Backed.{IsBackedFile, backed_still}
-use Rattle.tree_table.proofs.Committing.{on_ok}
-use Rattle.tree_file.proofs.Passing.{either_way, files_fail}
+use Rattle.tree_file.proofs.Passing.{on_ok, either_way, files_fail}
 use Rattle.tree_table.specs.aid.Standing.{works_still}
 use Rattle.tree_file.proofs.working.TreeFileTable.set_record.Goals as goal
 
