@@ -2,7 +2,7 @@
 ghost use Rattle.std.specs.Prelude.{◌≡◌, IfOk, OnOk, IfErr, length};
 ghost use Rattle.retrograde.specs.Stored.{count_below};
 ghost use Rattle.table.specs.Faults.{NeedsNoPage};
-ghost use Rattle.table.specs.aid.Reading.{IsRead};
+ghost use Rattle.table.specs.Frames.{IsRead};
 
 use table::{Table, TableFault};
 

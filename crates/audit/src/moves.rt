@@ -10,7 +10,7 @@ ghost use Rattle.table.specs.Memory.{bytes_of_each};
 ghost use Rattle.table.specs.Faults.{NeedsNoPage};
 ghost use Rattle.audit.specs.Causes.{OfTableFault};
 ghost use Rattle.audit.specs.aid.Conditions.{AreItsRecords};
-ghost use Rattle.table.specs.aid.Reading.{IsRead};
+ghost use Rattle.table.specs.Frames.{IsRead};
 ghost use Rattle.audit.specs.declared.fault.AuditFault.TheVariants.{TooWide};
 
 use crate::edges::has_edge;

@@ -8,7 +8,7 @@ ghost use Rattle.table.specs.Faults.{NeedsNoPage};
 ghost use Rattle.audit.specs.Causes.{OfTableFault, HasWide};
 ghost use Rattle.audit.specs.aid.Conditions.{IsLowest, own_condition, IsFloor};
 ghost use Rattle.audit.specs.aid.Edges.{IsArriving};
-ghost use Rattle.table.specs.aid.Reading.{IsRead};
+ghost use Rattle.table.specs.Frames.{IsRead};
 ghost use Rattle.audit.specs.declared.verdict.Reason.TheVariants.{A1, A2};
 ghost use Rattle.audit.specs.declared.fault.AuditFault.TheVariants.{TooWide};
 

@@ -4,7 +4,7 @@ ghost use Rattle.retrograde.specs.Stored.{IsTable};
 ghost use Rattle.table.specs.Faults.{NeedsNoPage};
 ghost use Rattle.audit.specs.Causes.{OfTableFault};
 ghost use Rattle.audit.specs.aid.Conditions.{AreFloors, distance_at};
-ghost use Rattle.table.specs.aid.Reading.{IsRead};
+ghost use Rattle.table.specs.Frames.{IsRead};
 ghost use Rattle.audit.specs.declared.fault.AuditFault.TheVariants.{TooWide};
 
 use crate::fault::AuditFault;

@@ -6,7 +6,7 @@ ghost use Rattle.best_line.specs.Lines.{IsBestLine, IsBestPlay, IsToldLine};
 ghost use Rattle.best_line.specs.Causes.{IsLineCause, LineStops, OfTable};
 ghost use Rattle.best_line.specs.declared.fault.LineFault.TheVariants.{NotSettled};
 ghost use Rattle.table.specs.Faults.{NeedsNoPage};
-ghost use Rattle.table.specs.aid.Reading.{IsRead};
+ghost use Rattle.table.specs.Frames.{IsRead};
 
 use crate::answers::Value;
 use crate::fault::LineFault;
@@ -77,10 +77,7 @@ pub fn line<M: MoveSource, T: Table>(
         → IfErr result (IsLineCause (view_of (T.stored table.old)) number) }
     ensures stops { T.is_honest table.old → IsTable (T.stored table.old)
         → IfErr result (LineStops (M.graph source.now) (M.is_wide source.now) (view_of (T.stored table.old)) number) }
-    ensures same { T.is_honest table.old → T.stored table.new ≡ T.stored table.old }
-    ensures honest { T.is_honest table.old ↔ T.is_honest table.new }
-    ensures counts { T.counted table.new ≡ T.counted table.old }
-    ensures stays { T.stays table.old table.new }
+    ensures read { IsRead T.stored T.is_honest T.counted T.stays table.old table.new }
     ensures room { IfErr result (OfTable NeedsNoPage) }
     ensures fault { IfErr result (OfTable (T.fails table.old table.new)) }
 {

@@ -3,7 +3,7 @@ ghost use Rattle.std.specs.Prelude.{◌≡◌, ◌↔◌, ◌<◌, ℕ, List, Al
 ghost use Rattle.retrograde.specs.Stored.{IsTable, view_of};
 ghost use Rattle.retrograde.specs.View.{HasNumber};
 ghost use Rattle.table.specs.Faults.{NeedsNoPage};
-ghost use Rattle.table.specs.aid.Reading.{IsRead};
+ghost use Rattle.table.specs.Frames.{IsRead};
 ghost use Rattle.legal_moves.specs.Compiled.{compiled_game, packing_kind, IsSoundCompiled};
 ghost use Rattle.legal_moves.specs.Sources.{IsPositionBytes, IsWideAt};
 ghost use Rattle.best_line.specs.KnownCauses.{FaultOfTable};
@@ -95,10 +95,7 @@ pub fn known_moves<T: Table>(
         × (¬ IsPositionBytes (packing_kind compiled.now) (compiled_game compiled.now) x) }
     ensures wide { T.is_honest table.old → result ≡ Err TooWide → (x : List ℕ) × HasNumber (view_of (T.stored table.old)) number x
         × IsWideAt (packing_kind compiled.now) (compiled_game compiled.now) x }
-    ensures same { T.is_honest table.old → T.stored table.new ≡ T.stored table.old }
-    ensures honest { T.is_honest table.old ↔ T.is_honest table.new }
-    ensures counts { T.counted table.new ≡ T.counted table.old }
-    ensures stays { T.stays table.old table.new }
+    ensures read { IsRead T.stored T.is_honest T.counted T.stays table.old table.new }
     ensures room { IfErr result (FaultOfTable NeedsNoPage) }
     ensures fault { IfErr result (FaultOfTable (T.fails table.old table.new)) }
 {

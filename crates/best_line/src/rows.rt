@@ -3,6 +3,7 @@ ghost use Rattle.std.specs.Prelude.{◌≡◌, ◌↔◌, ◌-◌, ◌<◌, ◌�
 ghost use Rattle.retrograde.specs.Stored.{IsTable, view_of};
 ghost use Rattle.best_line.specs.Rows.{AreRows};
 ghost use Rattle.table.specs.Faults.{NeedsNoPage};
+ghost use Rattle.table.specs.Frames.{IsRead};
 
 use crate::answers::Row;
 use crate::values::value;
@@ -26,10 +27,7 @@ pub fn list<T: Table>(
     ensures rows { T.is_honest table.old → IsTable (T.stored table.old)
         → IfOk result (λ rows. AreRows (view_of (T.stored table.old)) from count rows.items) }
     ensures lengths { IfOk result (λ rows. length rows.items ≡ min count ((T.counted table.old).known - from)) }
-    ensures same { T.is_honest table.old → T.stored table.new ≡ T.stored table.old }
-    ensures honest { T.is_honest table.old ↔ T.is_honest table.new }
-    ensures counts { T.counted table.new ≡ T.counted table.old }
-    ensures stays { T.stays table.old table.new }
+    ensures read { IsRead T.stored T.is_honest T.counted T.stays table.old table.new }
     ensures room { IfErr result NeedsNoPage }
     ensures fault { IfErr result (T.fails table.old table.new) }
 {

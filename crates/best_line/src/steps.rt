@@ -8,7 +8,7 @@ ghost use Rattle.best_line.specs.aid.Lines.{IsFirstWon};
 ghost use Rattle.best_line.specs.Causes.{OfTable};
 ghost use Rattle.best_line.specs.declared.fault.LineFault.TheVariants.{NotSettled, Inconsistent, TooWide};
 ghost use Rattle.table.specs.Faults.{NeedsNoPage};
-ghost use Rattle.table.specs.aid.Reading.{IsRead};
+ghost use Rattle.table.specs.Frames.{IsRead};
 
 use crate::fault::LineFault;
 use legal_moves::MoveSource;

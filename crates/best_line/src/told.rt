@@ -2,6 +2,7 @@
 ghost use Rattle.std.specs.Prelude.{◌≡◌, ◌↔◌, IfOk, IfErr};
 ghost use Rattle.retrograde.specs.Stored.{IsTable, view_of};
 ghost use Rattle.table.specs.Faults.{NeedsNoPage};
+ghost use Rattle.table.specs.Frames.{IsRead};
 ghost use Rattle.best_line.specs.Moves.{IsKnownAs};
 
 use crate::{Value, value};
@@ -21,10 +22,7 @@ pub struct Told {
 pub fn told_of<T: Table>(table: &mut T, packed: &Packed) -> Result<Told, TableFault>
     ensures told { T.is_honest table.old → IsTable (T.stored table.old)
         → IfOk result (λ told. IsKnownAs (view_of (T.stored table.old)) packed.now.items told.number told.value) }
-    ensures same { T.is_honest table.old → T.stored table.new ≡ T.stored table.old }
-    ensures honest { T.is_honest table.old ↔ T.is_honest table.new }
-    ensures counts { T.counted table.new ≡ T.counted table.old }
-    ensures stays { T.stays table.old table.new }
+    ensures read { IsRead T.stored T.is_honest T.counted T.stays table.old table.new }
     ensures room { IfErr result NeedsNoPage }
     ensures fault { IfErr result (T.fails table.old table.new) }
 {

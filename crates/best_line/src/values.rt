@@ -5,6 +5,7 @@ ghost use Rattle.retrograde.specs.Changes.{counts_of};
 ghost use Rattle.best_line.specs.Values.{IsValue};
 ghost use Rattle.best_line.specs.aid.Values.{IsUnsettled};
 ghost use Rattle.table.specs.Faults.{NeedsNoPage};
+ghost use Rattle.table.specs.Frames.{IsRead};
 
 use crate::answers::Value;
 use retrograde::{Counts, Record};
@@ -40,10 +41,7 @@ pub fn value<T: Table>(table: &mut T, number: u32) -> Result<Value, TableFault>
     requires { number < (T.counted table.old).known }
     ensures value { T.is_honest table.old → IsTable (T.stored table.old)
         → IfOk result (λ value. IsValue (view_of (T.stored table.old)) number value) }
-    ensures same { T.is_honest table.old → T.stored table.new ≡ T.stored table.old }
-    ensures honest { T.is_honest table.old ↔ T.is_honest table.new }
-    ensures counts { T.counted table.new ≡ T.counted table.old }
-    ensures stays { T.stays table.old table.new }
+    ensures read { IsRead T.stored T.is_honest T.counted T.stays table.old table.new }
     ensures room { IfErr result NeedsNoPage }
     ensures fault { IfErr result (T.fails table.old table.new) }
 {

@@ -1,8 +1,10 @@
 //! The whole of a table is copied.
-ghost use Rattle.std.specs.Prelude.{◌≡◌, ◌↔◌, ◌^◌, ◌≤◌, OnOk, IfErr};
+ghost use Rattle.std.specs.Prelude.{◌≡◌, ◌^◌, ◌≤◌, OnOk, IfErr};
 ghost use Rattle.retrograde.specs.Stored.{IsTable};
 ghost use Rattle.table.specs.Records.{nothing};
+ghost use Rattle.table.specs.Frames.{IsRead};
 ghost use Rattle.earlier_layouts.specs.Copies.{LeavesOfCopy};
+ghost use Rattle.earlier_layouts.specs.aid.CopyParts.{HasGoneOn};
 
 use crate::edges::copy_edges;
 use crate::fault::CopyFault;
@@ -21,12 +23,8 @@ pub fn copy_table<A: Table, B: Table>(from: &mut A, to: &mut B) -> Result<(), Co
     requires nothing { B.is_honest to.old → B.stored to.old ≡ nothing }
     requires none { (B.counted to.old).known ≡ 0 }
     ensures ok { B.is_honest to.old → OnOk result (B.stored to.new ≡ A.stored from.old) }
-    ensures same { A.is_honest from.old → A.stored from.new ≡ A.stored from.old }
-    ensures from_honest { A.is_honest from.old ↔ A.is_honest from.new }
-    ensures counts { A.counted from.new ≡ A.counted from.old }
-    ensures stays { A.stays from.old from.new }
-    ensures to_honest { OnOk result (B.is_honest to.old ↔ B.is_honest to.new) }
-    ensures ahead { OnOk result (B.goes_on to.old to.new) }
+    ensures read { IsRead A.stored A.is_honest A.counted A.stays from.old from.new }
+    ensures written { OnOk result (HasGoneOn B.is_honest B.goes_on to.old to.new) }
     ensures left { IfErr result (LeavesOfCopy (A.fails from.old from.new) (B.fails to.old to.new)
         (B.goes_on to.old to.new) (B.is_honest to.old)) }
 {

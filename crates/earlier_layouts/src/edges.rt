@@ -1,7 +1,8 @@
 //! The edges are copied, successor by successor.
 ghost use Rattle.std.specs.Prelude.{◌≡◌, ◌+◌, ◌<◌, OnOk, IfErr, length};
+ghost use Rattle.table.specs.Frames.{IsRead, IsWritten};
 ghost use Rattle.earlier_layouts.specs.Copies.{LeavesOfCopy};
-ghost use Rattle.earlier_layouts.specs.aid.CopyParts.{HasOnlyRead, HasGoneOn, with_edges};
+ghost use Rattle.earlier_layouts.specs.aid.CopyParts.{with_edges};
 
 use crate::fault::CopyFault;
 use table::Table;
@@ -17,9 +18,8 @@ fn copy_edges_to<A: Table, B: Table>(
     requires honest { B.is_honest to.old → A.is_honest from.old }
     requires before { B.is_honest to.old → B.stored to.old ≡ with_edges successor (A.stored from.old) }
     ensures copied { B.is_honest to.old → OnOk result (B.stored to.new ≡ with_edges (successor + 1) (A.stored from.old)) }
-    ensures known { OnOk result ((B.counted to.new).known ≡ (B.counted to.old).known) }
-    ensures read { HasOnlyRead A.stored A.is_honest A.counted A.stays from.old from.new }
-    ensures written { OnOk result (HasGoneOn B.is_honest B.goes_on to.old to.new) }
+    ensures read { IsRead A.stored A.is_honest A.counted A.stays from.old from.new }
+    ensures written { OnOk result (IsWritten B.is_honest B.counted B.goes_on to.old to.new) }
     ensures left { IfErr result (LeavesOfCopy (A.fails from.old from.new) (B.fails to.old to.new)
         (B.goes_on to.old to.new) (B.is_honest to.old)) }
 {
@@ -38,8 +38,8 @@ pub fn copy_edges<A: Table, B: Table>(from: &mut A, to: &mut B) -> Result<(), Co
     requires before { B.is_honest to.old → B.stored to.old ≡ with_edges 0 (A.stored from.old) }
     ensures copied { B.is_honest to.old → OnOk result
         (B.stored to.new ≡ with_edges (length (A.stored from.old).positions) (A.stored from.old)) }
-    ensures read { HasOnlyRead A.stored A.is_honest A.counted A.stays from.old from.new }
-    ensures written { OnOk result (HasGoneOn B.is_honest B.goes_on to.old to.new) }
+    ensures read { IsRead A.stored A.is_honest A.counted A.stays from.old from.new }
+    ensures written { OnOk result (IsWritten B.is_honest B.counted B.goes_on to.old to.new) }
     ensures left { IfErr result (LeavesOfCopy (A.fails from.old from.new) (B.fails to.old to.new)
         (B.goes_on to.old to.new) (B.is_honest to.old)) }
 {

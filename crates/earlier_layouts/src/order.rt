@@ -1,8 +1,9 @@
 //! The settled order is copied, place by place.
 ghost use Rattle.std.specs.Prelude.{◌≡◌, ◌+◌, ◌<◌, OnOk, IfErr, length};
 ghost use Rattle.retrograde.specs.Stored.{IsTable};
+ghost use Rattle.table.specs.Frames.{IsRead, IsWritten};
 ghost use Rattle.earlier_layouts.specs.Copies.{LeavesOfCopy};
-ghost use Rattle.earlier_layouts.specs.aid.CopyParts.{HasOnlyRead, HasGoneOn, with_order};
+ghost use Rattle.earlier_layouts.specs.aid.CopyParts.{with_order};
 
 use crate::fault::CopyFault;
 use table::Table;
@@ -14,9 +15,8 @@ fn copy_place<A: Table, B: Table>(from: &mut A, to: &mut B, place: u32) -> Resul
     requires table { A.is_honest from.old → IsTable (A.stored from.old) }
     requires before { B.is_honest to.old → B.stored to.old ≡ with_order place (A.stored from.old) }
     ensures copied { B.is_honest to.old → OnOk result (B.stored to.new ≡ with_order (place + 1) (A.stored from.old)) }
-    ensures known { OnOk result ((B.counted to.new).known ≡ (B.counted to.old).known) }
-    ensures read { HasOnlyRead A.stored A.is_honest A.counted A.stays from.old from.new }
-    ensures written { OnOk result (HasGoneOn B.is_honest B.goes_on to.old to.new) }
+    ensures read { IsRead A.stored A.is_honest A.counted A.stays from.old from.new }
+    ensures written { OnOk result (IsWritten B.is_honest B.counted B.goes_on to.old to.new) }
     ensures left { IfErr result (LeavesOfCopy (A.fails from.old from.new) (B.fails to.old to.new)
         (B.goes_on to.old to.new) (B.is_honest to.old)) }
 {
@@ -35,9 +35,8 @@ pub fn copy_order<A: Table, B: Table>(from: &mut A, to: &mut B) -> Result<(), Co
     requires table { A.is_honest from.old → IsTable (A.stored from.old) }
     requires before { B.is_honest to.old → B.stored to.old ≡ with_order 0 (A.stored from.old) }
     ensures copied { B.is_honest to.old → OnOk result (B.stored to.new ≡ A.stored from.old) }
-    ensures known { OnOk result ((B.counted to.new).known ≡ (B.counted to.old).known) }
-    ensures read { HasOnlyRead A.stored A.is_honest A.counted A.stays from.old from.new }
-    ensures written { OnOk result (HasGoneOn B.is_honest B.goes_on to.old to.new) }
+    ensures read { IsRead A.stored A.is_honest A.counted A.stays from.old from.new }
+    ensures written { OnOk result (IsWritten B.is_honest B.counted B.goes_on to.old to.new) }
     ensures left { IfErr result (LeavesOfCopy (A.fails from.old from.new) (B.fails to.old to.new)
         (B.goes_on to.old to.new) (B.is_honest to.old)) }
 {

@@ -2,8 +2,9 @@
 ghost use Rattle.std.specs.Prelude.{◌≡◌, ◌+◌, ◌^◌, ◌<◌, ◌≤◌, OnOk, IfErr, length};
 ghost use Rattle.retrograde.specs.Stored.{IsTable};
 ghost use Rattle.table.specs.Records.{nothing};
+ghost use Rattle.table.specs.Frames.{IsRead};
 ghost use Rattle.earlier_layouts.specs.Copies.{LeavesOfCopy};
-ghost use Rattle.earlier_layouts.specs.aid.CopyParts.{HasOnlyRead, HasGoneOn, with_positions};
+ghost use Rattle.earlier_layouts.specs.aid.CopyParts.{HasGoneOn, with_positions};
 
 use crate::fault::CopyFault;
 use table::Table;
@@ -18,7 +19,7 @@ fn copy_position<A: Table, B: Table>(from: &mut A, to: &mut B, number: u32) -> R
     requires before { B.is_honest to.old → B.stored to.old ≡ with_positions number (A.stored from.old) }
     ensures copied { B.is_honest to.old → OnOk result (B.stored to.new ≡ with_positions (number + 1) (A.stored from.old)) }
     ensures known { OnOk result ((B.counted to.new).known ≡ number + 1) }
-    ensures read { HasOnlyRead A.stored A.is_honest A.counted A.stays from.old from.new }
+    ensures read { IsRead A.stored A.is_honest A.counted A.stays from.old from.new }
     ensures written { OnOk result (HasGoneOn B.is_honest B.goes_on to.old to.new) }
     ensures left { IfErr result (LeavesOfCopy (A.fails from.old from.new) (B.fails to.old to.new)
         (B.goes_on to.old to.new) (B.is_honest to.old)) }
@@ -40,7 +41,7 @@ pub fn copy_positions<A: Table, B: Table>(from: &mut A, to: &mut B) -> Result<()
     ensures copied { B.is_honest to.old → OnOk result
         (B.stored to.new ≡ with_positions (length (A.stored from.old).positions) (A.stored from.old)) }
     ensures known { OnOk result ((B.counted to.new).known ≡ (A.counted from.old).known) }
-    ensures read { HasOnlyRead A.stored A.is_honest A.counted A.stays from.old from.new }
+    ensures read { IsRead A.stored A.is_honest A.counted A.stays from.old from.new }
     ensures written { OnOk result (HasGoneOn B.is_honest B.goes_on to.old to.new) }
     ensures left { IfErr result (LeavesOfCopy (A.fails from.old from.new) (B.fails to.old to.new)
         (B.goes_on to.old to.new) (B.is_honest to.old)) }

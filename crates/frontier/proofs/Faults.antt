@@ -3,8 +3,7 @@ use Rattle.std.proofs.Common.{◌≡◌, Result, Ok, Err, OnOk}
 use Rattle.std.specs.Result.{IsErr, IfErr, IfOk, IsErrAnd}
 use Rattle.frontier.specs.declared.fault.StepFault.{StepFault}
 use Rattle.frontier.specs.declared.fault.StepFault.TheVariants.{Inconsistent, Table}
-use Rattle.frontier.specs.Causes.{IsRefusal}
-use Rattle.frontier.proofs.Passing.{passed_on, consistent, table_consistent}
+use Rattle.frontier.proofs.Passing.{consistent, table_consistent}
 use Rattle.table.specs.declared.fault.TableFault.{TableFault}
 
 pub none_done : {X E : Type 0} (Done : Type 0) (r : Result X E) → IsErr r → OnOk r Done
@@ -15,10 +14,7 @@ pub none_answered : {X E : Type 0} (Such : X → Type 0) (r : Result X E) → Is
 none_answered Such (Ok x) is = absurd (cc)
 none_answered Such (Err f) is = tt
 
--- a fault of the table is no refusal, and no inconsistency
-pub no_refusal : {X : Type 0} (r : Result X StepFault) (fault : TableFault) → IsErr r × IsErrAnd r (λ f. f ≡ Table fault) → IfErr r (λ f. ¬ IsRefusal f)
-no_refusal r fault is = passed_on (λ f. ¬ IsRefusal f) r (Table fault) is (λ never. never)
-
+-- a fault of the table is no inconsistency
 pub no_conflict : {X : Type 0} (r : Result X StepFault) (fault : TableFault) → IsErr r × IsErrAnd r (λ f. f ≡ Table fault) → r ≡ Err Inconsistent → ⊥
 no_conflict r fault is same = consistent r (Table fault) is (table_consistent fault) same
 

@@ -1,24 +1,25 @@
 -- What calls to a table leave of it, one after another.
-use Rattle.std.proofs.Common.{◌≡◌, ◌∙◌, ap}
-use Rattle.std.specs.Prelude.{◌↔◌}
+use Rattle.std.proofs.Common.{arith}
 use Rattle.retrograde.specs.declared.records.Counts.{Counts}
+use Rattle.table.specs.Frames.{IsWritten}
 use Rattle.table.specs.declared.fault.TableFault.{TableFault}
 use Rattle.frontier.specs.declared.fault.StepFault.{StepFault}
-use Rattle.frontier.specs.declared.fault.StepFault.TheVariants.{Inconsistent, Table}
-use Rattle.frontier.specs.Frames.{IsWritten, IsGivenUp}
+use Rattle.frontier.specs.declared.fault.StepFault.TheVariants.{Inconsistent, OutOfMemory, Table}
+use Rattle.frontier.specs.Frames.{IsGrown, IsGivenUp}
 use Rattle.frontier.proofs.Passing.{leaves_after}
 
 module _ {T : Type 0} {IsHonest : T → Type 0} {counted : T → Counts} {GoesOn : T → T → Type 0} where
-  -- a call that only reads
-  pub is_read : {a b : T} → (IsHonest a ↔ IsHonest b) → counted b ≡ counted a → GoesOn a b → IsWritten IsHonest counted GoesOn a b
-  is_read honest counts ahead = record { honest = honest; known = ap (λ (k : Counts). k.known) counts; ahead = ahead }
+  -- a call that adds no position
+  pub as_grown : {a b : T} → IsWritten IsHonest counted GoesOn a b → IsGrown IsHonest counted GoesOn a b
+  as_grown wrote = record { honest = wrote.honest; more = omega (arith, wrote.known); room = λ few. omega (arith, wrote.known, few); ahead = wrote.ahead }
 
   -- one call after another
-  pub written_then : ((a b c : T) → GoesOn a b → GoesOn b c → GoesOn a c)
-      → {a b c : T} → IsWritten IsHonest counted GoesOn a b → IsWritten IsHonest counted GoesOn b c → IsWritten IsHonest counted GoesOn a c
-  written_then on first second = record {
+  pub grown_then : ((a b c : T) → GoesOn a b → GoesOn b c → GoesOn a c)
+      → {a b c : T} → IsGrown IsHonest counted GoesOn a b → IsGrown IsHonest counted GoesOn b c → IsGrown IsHonest counted GoesOn a c
+  grown_then on first second = record {
     honest = (λ h. second.honest.0 (first.honest.0 h), λ h. first.honest.1 (second.honest.1 h));
-    known = second.known ∙ first.known;
+    more = omega (arith, first.more, second.more);
+    room = λ few. second.room (first.room few);
     ahead = on _ _ _ first.ahead second.ahead;
   }
 
@@ -30,6 +31,10 @@ module _ {T : Type 0} {GoesOn : T → T → Type 0} {Fails : T → T → TableFa
   -- since the table does not agree with itself
   pub in_conflict : {a b : T} → GoesOn a b → IsGivenUp GoesOn Fails a b Inconsistent
   in_conflict ahead = record { goes_on = λ never. never; left = ahead }
+
+  -- for want of memory that is the caller's
+  pub out_of_memory : {a b : T} → GoesOn a b → IsGivenUp GoesOn Fails a b OutOfMemory
+  out_of_memory ahead = record { goes_on = λ never. never; left = ahead }
 
   -- after calls that were answered
   pub given_up_since : ((a b c : T) → GoesOn a b → GoesOn b c → GoesOn a c)

@@ -1,5 +1,5 @@
 //! One position is expanded.
-ghost use Rattle.std.specs.Prelude.{◌≡◌, ◌↔◌, ◌⊎◌, ◌+◌, ◌*◌, ◌^◌, ◌<◌, ◌≤◌, ℕ, List, [], true, false};
+ghost use Rattle.std.specs.Prelude.{◌≡◌, ◌⊎◌, ◌+◌, ◌*◌, ◌^◌, ◌<◌, ◌≤◌, ℕ, List, [], true, false};
 ghost use Rattle.std.specs.Prelude.{map, vec_len, IsOk, IfOk, OnOk, IfErr, Err, None, length};
 ghost use Rattle.rbg_game.specs.declared.roles.Role.{Role};
 ghost use Rattle.legal_moves.specs.Listed.{ListsExactly};
@@ -15,6 +15,7 @@ ghost use Rattle.table.specs.declared.limits.TheConstants.{PAGES_PER_ENTRY};
 ghost use Rattle.frontier.specs.Causes.{HasUnitCause, IsRefusal, Leaves};
 ghost use Rattle.frontier.specs.Done.{IsUnitDone};
 ghost use Rattle.frontier.specs.Entries.{WritesAtMost};
+ghost use Rattle.frontier.specs.Frames.{IsGrown};
 ghost use Rattle.frontier.specs.declared.fault.StepFault.{StepFault};
 ghost use Rattle.frontier.specs.declared.fault.StepFault.TheVariants.{TooWide, Inconsistent, OutOfMemory};
 
@@ -74,7 +75,6 @@ pub fn expand_one<M: MoveSource, T: Table>(
     requires source { M.is_sound source.now }
     requires waiting { (T.counted table.old).expanded < (T.counted table.old).known }
     requires limit { (T.counted table.old).known ≤ 2 ^ 24 }
-    ensures honest { OnOk result (T.is_honest table.old ↔ T.is_honest table.new) }
     ensures room { OnOk result ((T.counted table.new).known ≤ 2 ^ 24) }
     ensures expands { T.is_honest table.old → IsLocallySound (M.graph source.now) (M.is_wide source.now) (T.stored table.old)
         → OnOk result ((x : List ℕ) × (ys : List (List ℕ))
@@ -92,7 +92,7 @@ pub fn expand_one<M: MoveSource, T: Table>(
         → T.is_honest table.new × (T.stored table.new ≡ T.stored table.old)) }
     ensures consistent { T.is_honest table.old → IsLocallySound (M.graph source.now) (M.is_wide source.now) (T.stored table.old)
         → result ≡ Err Inconsistent → ⊥ }
-    ensures ahead { OnOk result (T.goes_on table.old table.new) }
+    ensures ok { OnOk result (IsGrown T.is_honest T.counted T.goes_on table.old table.new) }
     ensures left { IfErr result (Leaves (T.goes_on table.old table.new) (T.fails table.old table.new)) }
     ensures takes { T.is_honest table.old → OnOk result ((entries : ℕ)
         × WritesAtMost (M.graph source.now) (T.stored table.old) entries

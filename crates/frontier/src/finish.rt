@@ -1,8 +1,9 @@
 //! The record of an expanded position.
-ghost use Rattle.std.specs.Prelude.{◌≡◌, ◌↔◌, ◌+◌, ◌*◌, ◌<◌, ◌≤◌, OnOk, IfErr, Err, Some, length};
+ghost use Rattle.std.specs.Prelude.{◌≡◌, ◌+◌, ◌*◌, ◌<◌, ◌≤◌, OnOk, IfErr, Err, Some, length};
 ghost use Rattle.retrograde.specs.aid.Expansion.{with_ended, with_expanded};
+ghost use Rattle.table.specs.Frames.{IsWritten};
 ghost use Rattle.table.specs.declared.limits.TheConstants.{PAGES_PER_ENTRY};
-ghost use Rattle.frontier.specs.Causes.{IsRefusal, Leaves};
+ghost use Rattle.frontier.specs.Frames.{IsGivenUp};
 ghost use Rattle.frontier.specs.declared.fault.StepFault.TheVariants.{Inconsistent};
 
 use crate::fault::StepFault;
@@ -14,13 +15,10 @@ use table::Table;
 fn end<T: Table>(table: &mut T, number: u32, winner: Player) -> Result<(), StepFault>
     requires { number < (T.counted table.old).known }
     ensures ended { T.is_honest table.old → OnOk result (T.stored table.new ≡ with_ended number (Some winner) (T.stored table.old)) }
-    ensures honest { OnOk result (T.is_honest table.old ↔ T.is_honest table.new) }
-    ensures known { OnOk result ((T.counted table.new).known ≡ (T.counted table.old).known) }
     ensures full { T.is_honest table.old → result ≡ Err Inconsistent
         → length (T.stored table.old).positions ≤ length (T.stored table.old).order }
-    ensures goes_on { IfErr result (λ fault. ¬ IsRefusal fault) }
-    ensures ahead { OnOk result (T.goes_on table.old table.new) }
-    ensures left { IfErr result (Leaves (T.goes_on table.old table.new) (T.fails table.old table.new)) }
+    ensures ok { OnOk result (IsWritten T.is_honest T.counted T.goes_on table.old table.new) }
+    ensures err { IfErr result (IsGivenUp T.goes_on T.fails table.old table.new) }
     ensures takes { T.free table.old ≤ T.free table.new + PAGES_PER_ENTRY * 2 }
 {
     let kept = Record {
@@ -49,13 +47,10 @@ pub fn finish<T: Table>(
     requires { number < (T.counted table.old).known }
     ensures expanded { T.is_honest table.old → OnOk result
         (T.stored table.new ≡ with_expanded number successors ahead (T.stored table.old)) }
-    ensures honest { OnOk result (T.is_honest table.old ↔ T.is_honest table.new) }
-    ensures known { OnOk result ((T.counted table.new).known ≡ (T.counted table.old).known) }
     ensures full { T.is_honest table.old → result ≡ Err Inconsistent
         → length (T.stored table.old).positions ≤ length (T.stored table.old).order }
-    ensures goes_on { IfErr result (λ fault. ¬ IsRefusal fault) }
-    ensures ahead { OnOk result (T.goes_on table.old table.new) }
-    ensures left { IfErr result (Leaves (T.goes_on table.old table.new) (T.fails table.old table.new)) }
+    ensures ok { OnOk result (IsWritten T.is_honest T.counted T.goes_on table.old table.new) }
+    ensures err { IfErr result (IsGivenUp T.goes_on T.fails table.old table.new) }
     ensures takes { T.free table.old ≤ T.free table.new + PAGES_PER_ENTRY * 2 }
 {
     match (successors, ahead) {

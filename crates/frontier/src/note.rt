@@ -1,5 +1,5 @@
 //! Successors become known, and get their edges.
-ghost use Rattle.std.specs.Prelude.{◌≡◌, ◌↔◌, ◌+◌, ◌*◌, ◌^◌, ◌<◌, ◌≤◌, ℕ, All, OnOk, IfErr, Err, length};
+ghost use Rattle.std.specs.Prelude.{◌≡◌, ◌+◌, ◌*◌, ◌^◌, ◌<◌, ◌≤◌, ℕ, All, OnOk, IfErr, Err, length};
 ghost use Rattle.std.specs.Prelude.{slice_get, Some};
 ghost use Rattle.std.specs.List.Sorted.{IsStrictlySortedBy};
 ghost use Rattle.table.specs.Memory.{bytes_of_each};
@@ -7,7 +7,7 @@ ghost use Rattle.table.specs.declared.limits.TheConstants.{PAGES_PER_ENTRY};
 ghost use Rattle.retrograde.specs.Changes.{with_position, with_edge};
 ghost use Rattle.retrograde.specs.aid.Expansion.{AreNoted};
 ghost use Rattle.retrograde.specs.Successors.{packed_cmp};
-ghost use Rattle.frontier.specs.Causes.{IsRefusal, Leaves};
+ghost use Rattle.frontier.specs.Frames.{IsGrown, IsGivenUp};
 ghost use Rattle.frontier.specs.declared.fault.StepFault.TheVariants.{Inconsistent};
 ghost use Rattle.frontier.specs.aid.Numbering.{AreNumbersOf};
 
@@ -28,15 +28,11 @@ fn note<T: Table>(
         → (j : ℕ) → slice_get (T.stored table.old).positions j ≡ Some successor.now.items → ⊥ }
     ensures known { T.is_honest table.old → OnOk result (number < (T.counted table.old).known
         → T.stored table.new ≡ with_edge (T.stored table.old) number predecessor) }
-    ensures honest { OnOk result (T.is_honest table.old ↔ T.is_honest table.new) }
     ensures added { T.is_honest table.old → OnOk result ((T.counted table.old).known ≤ number
         → T.stored table.new ≡ with_edge (with_position (T.stored table.old) successor.now.items) (T.counted table.old).known predecessor) }
-    ensures more { OnOk result ((T.counted table.old).known ≤ (T.counted table.new).known) }
-    ensures room { OnOk result ((T.counted table.old).known ≤ 2 ^ 24 → (T.counted table.new).known ≤ 2 ^ 24) }
-    ensures goes_on { IfErr result (λ fault. ¬ IsRefusal fault) }
     ensures consistent { result ≡ Err Inconsistent → ⊥ }
-    ensures ahead { OnOk result (T.goes_on table.old table.new) }
-    ensures left { IfErr result (Leaves (T.goes_on table.old table.new) (T.fails table.old table.new)) }
+    ensures ok { OnOk result (IsGrown T.is_honest T.counted T.goes_on table.old table.new) }
+    ensures err { IfErr result (IsGivenUp T.goes_on T.fails table.old table.new) }
     ensures takes { T.free table.old ≤ T.free table.new + PAGES_PER_ENTRY * 3 }
 {
     let mut noted = number;
@@ -62,13 +58,9 @@ pub fn note_all<T: Table>(
     requires ascending { IsStrictlySortedBy packed_cmp (bytes_of_each successors.now) }
     ensures noted { T.is_honest table.old → OnOk result
         (AreNoted predecessor (bytes_of_each successors.now) (T.stored table.old) (T.stored table.new)) }
-    ensures honest { OnOk result (T.is_honest table.old ↔ T.is_honest table.new) }
-    ensures more { OnOk result ((T.counted table.old).known ≤ (T.counted table.new).known) }
-    ensures room { OnOk result ((T.counted table.old).known ≤ 2 ^ 24 → (T.counted table.new).known ≤ 2 ^ 24) }
-    ensures goes_on { IfErr result (λ fault. ¬ IsRefusal fault) }
     ensures consistent { result ≡ Err Inconsistent → ⊥ }
-    ensures ahead { OnOk result (T.goes_on table.old table.new) }
-    ensures left { IfErr result (Leaves (T.goes_on table.old table.new) (T.fails table.old table.new)) }
+    ensures ok { OnOk result (IsGrown T.is_honest T.counted T.goes_on table.old table.new) }
+    ensures err { IfErr result (IsGivenUp T.goes_on T.fails table.old table.new) }
     ensures takes { T.free table.old ≤ T.free table.new + PAGES_PER_ENTRY * (3 * length numbers.now) }
 {
     for i in 0..successors.len() {

@@ -1,7 +1,8 @@
 //! The numbers of the successors.
-ghost use Rattle.std.specs.Prelude.{◌≡◌, ◌↔◌, ◌+◌, ◌^◌, ◌<◌, ◌≤◌, ◌⊎◌, ℕ, suc, All, IfOk, OnOk, IfErr, Err, length, slice_get, Some};
+ghost use Rattle.std.specs.Prelude.{◌≡◌, ◌+◌, ◌^◌, ◌<◌, ◌≤◌, ◌⊎◌, ℕ, suc, All, IfOk, IfErr, Err, length, slice_get, Some};
+ghost use Rattle.table.specs.Frames.{IsRead};
 ghost use Rattle.table.specs.Memory.{bytes_of_each};
-ghost use Rattle.frontier.specs.Causes.{IsRefusal, Leaves};
+ghost use Rattle.frontier.specs.Frames.{IsGivenUp};
 ghost use Rattle.frontier.specs.declared.fault.StepFault.TheVariants.{Inconsistent};
 ghost use Rattle.frontier.specs.aid.Numbering.{AreNumbersOf};
 
@@ -25,13 +26,9 @@ fn number_or_next<T: Table>(table: &mut T, position: &Packed, next: u32) -> Resu
         ((i < length (T.stored table.old).positions) × (slice_get (T.stored table.old).positions i ≡ Some position.now.items))
         ⊎ ((i ≡ next) × ((j : ℕ) → slice_get (T.stored table.old).positions j ≡ Some position.now.items → ⊥))) }
     ensures within { IfOk result (λ i. i ≤ next) }
-    ensures same { T.is_honest table.old → OnOk result (T.stored table.new ≡ T.stored table.old) }
-    ensures honest { OnOk result (T.is_honest table.old ↔ T.is_honest table.new) }
-    ensures counts { OnOk result (T.counted table.new ≡ T.counted table.old) }
-    ensures goes_on { IfErr result (λ fault. ¬ IsRefusal fault) }
     ensures consistent { result ≡ Err Inconsistent → ⊥ }
-    ensures stays { T.stays table.old table.new }
-    ensures left { IfErr result (Leaves (T.goes_on table.old table.new) (T.fails table.old table.new)) }
+    ensures read { IsRead T.stored T.is_honest T.counted T.stays table.old table.new }
+    ensures err { IfErr result (IsGivenUp T.goes_on T.fails table.old table.new) }
 {
     Ok(table.number_of(position)?.unwrap_or(next))
 }
@@ -50,13 +47,9 @@ pub fn numbers_of<T: Table>(
     ensures lengths { IfOk result (λ numbers. length numbers.each.items ≡ length positions.now) }
     ensures within { IfOk result (λ numbers. All (λ i. i < numbers.next) numbers.each.items) }
     ensures next { IfOk result (λ numbers. (T.counted table.old).known ≤ numbers.next) }
-    ensures same { T.is_honest table.old → OnOk result (T.stored table.new ≡ T.stored table.old) }
-    ensures honest { OnOk result (T.is_honest table.old ↔ T.is_honest table.new) }
-    ensures counts { OnOk result (T.counted table.new ≡ T.counted table.old) }
-    ensures goes_on { IfErr result (λ fault. ¬ IsRefusal fault) }
     ensures consistent { result ≡ Err Inconsistent → ⊥ }
-    ensures stays { T.stays table.old table.new }
-    ensures left { IfErr result (Leaves (T.goes_on table.old table.new) (T.fails table.old table.new)) }
+    ensures read { IsRead T.stored T.is_honest T.counted T.stays table.old table.new }
+    ensures err { IfErr result (IsGivenUp T.goes_on T.fails table.old table.new) }
 {
     let mut next = table.counts().known;
     let mut each = Vec::new(alloc);

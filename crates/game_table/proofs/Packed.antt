@@ -1,11 +1,7 @@
 -- What is packed as a game's positions are is the bytes of its positions.
-use Rattle.std.proofs.Common.{◌≡◌, ◌↔◌, ◌+◌, ◌<◌, ◌≤◌, inl, inr, Bool, true, ℕ, Option, Some, option_map, unwrap_or, List, [], length, slice_get, get_or, refl, sym, ◌∙◌, ap, subst, arith}
+use Rattle.std.proofs.Common.{◌≡◌, ◌↔◌, ◌+◌, ◌<◌, inl, inr, Bool, true, ℕ, Option, Some, unwrap_or, List, [], slice_get, refl, sym, ◌∙◌, ap, subst, arith}
 use Rattle.std.specs.Prelude.{Result, Ok, Err, IfOk}
 use Rattle.std.proofs.lemmas.Bool.{cases_lt}
-use Rattle.std.proofs.lemmas.List.{length-map}
-use Rattle.std.proofs.lemmas.Option.{slice_get-map, slice_get-get_or, slice_get_within}
-use Rattle.arrayvec.specs.ArrayVec.{ArrayVec}
-use Rattle.table.specs.Memory.{bytes_of_each}
 use Rattle.rbg_game.specs.Games.{Game}
 use Rattle.position_pack.specs.declared.kind.PackingKind.{PackingKind}
 use Rattle.position_pack.specs.Packings.{Form, form_of}

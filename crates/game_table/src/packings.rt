@@ -2,6 +2,7 @@
 ghost use Rattle.std.specs.Prelude.{◌≡◌, ◌↔◌, true, IfOk, IfErr};
 ghost use Rattle.game_table.specs.aid.Tables.{IsPackedBytes, ArePacked};
 ghost use Rattle.table.specs.Faults.{NeedsNoPage};
+ghost use Rattle.table.specs.Frames.{IsRead};
 
 use position_pack::{Packed, Packing};
 use table::{Table, TableFault};
@@ -9,10 +10,7 @@ use table::{Table, TableFault};
 /// Whether each position of a table is one of this packing. The table stays as it was.
 pub fn are_packed<T: Table>(packing: &Packing, table: &mut T) -> Result<bool, TableFault>
     ensures are { T.is_honest table.old → IfOk result (λ are. (are ≡ true) ↔ ArePacked packing.now (T.stored table.old).positions) }
-    ensures same { T.is_honest table.old → T.stored table.new ≡ T.stored table.old }
-    ensures honest { T.is_honest table.old ↔ T.is_honest table.new }
-    ensures counts { T.counted table.new ≡ T.counted table.old }
-    ensures stays { T.stays table.old table.new }
+    ensures read { IsRead T.stored T.is_honest T.counted T.stays table.old table.new }
     ensures room { IfErr result NeedsNoPage }
     ensures fault { IfErr result (T.fails table.old table.new) }
 {

@@ -13,10 +13,12 @@ ghost use Rattle.retrograde.specs.Stored.{IsTable, view_of};
 ghost use Rattle.retrograde.specs.View.{IsFinished};
 ghost use Rattle.retrograde.specs.Sound.{IsLocallySound};
 ghost use Rattle.frontier.specs.Causes.{Leaves};
+ghost use Rattle.frontier.specs.Frames.{IsGrown};
 ghost use Rattle.game_table.specs.Entries.{WantsPages, WriteAtMost};
 ghost use Rattle.game_table.specs.Work.{StopsWith};
 ghost use Rattle.game_table.specs.Tables.{ArePositions, packed_length, IsWorkOf};
 ghost use Rattle.table.specs.Faults.{NeedsNoPage};
+ghost use Rattle.table.specs.Frames.{IsRead};
 ghost use Rattle.table.specs.declared.limits.TheConstants.{PAGES_PER_ENTRY};
 ghost use Rattle.rbg_game.specs.declared.limits.TheConstants.{MAX_TEXT_BYTES};
 
@@ -106,10 +108,7 @@ impl Source {
     pub fn are_positions<T: Table>(&self, table: &mut T) -> Result<bool, TableFault>
         ensures are { T.is_honest table.old → IfOk result
             (λ are. (are ≡ true) ↔ ArePositions (packing_kind self.now) (compiled_game self.now) (T.stored table.old)) }
-        ensures same { T.is_honest table.old → T.stored table.new ≡ T.stored table.old }
-        ensures honest { T.is_honest table.old ↔ T.is_honest table.new }
-        ensures counts { T.counted table.new ≡ T.counted table.old }
-        ensures stays { T.stays table.old table.new }
+        ensures read { IsRead T.stored T.is_honest T.counted T.stays table.old table.new }
         ensures room { IfErr result NeedsNoPage }
         ensures fault { IfErr result (T.fails table.old table.new) }
     {
@@ -126,7 +125,6 @@ impl Source {
     pub fn work<T: Table>(&self, alloc: Global, table: &mut T, units: u32) -> Result<u32, StepFault>
         requires { (T.counted table.old).known ≤ 2 ^ 24 }
         ensures limit { OnOk result ((T.counted table.new).known ≤ 2 ^ 24) }
-        ensures honest { OnOk result (T.is_honest table.old ↔ T.is_honest table.new) }
         ensures idle { IfOk result (λ done. done ≡ 0 → table.new ≡ table.old) }
         ensures works { T.is_honest table.old → IsLocallySound (graph_of (packing_kind self.now) (compiled_goal self.now) (compiled_game self.now))
             (IsWideAt (packing_kind self.now) (compiled_game self.now))
@@ -147,7 +145,7 @@ impl Source {
             → IsLocallySound (graph_of (packing_kind self.now) (compiled_goal self.now) (compiled_game self.now))
             (IsWideAt (packing_kind self.now) (compiled_game self.now)) (T.stored table.old)
             → result ≡ Err StepFault.Inconsistent → ⊥ }
-        ensures ahead { OnOk result (T.goes_on table.old table.new) }
+        ensures ok { OnOk result (IsGrown T.is_honest T.counted T.goes_on table.old table.new) }
         ensures left { IfErr result (Leaves (T.goes_on table.old table.new) (T.fails table.old table.new)) }
         ensures full { T.is_honest table.old → IsLocallySound (graph_of (packing_kind self.now) (compiled_goal self.now) (compiled_game self.now))
             (IsWideAt (packing_kind self.now) (compiled_game self.now)) (T.stored table.old)

@@ -1,10 +1,11 @@
 //! Units of work, one after another.
-ghost use Rattle.std.specs.Prelude.{◌≡◌, ◌↔◌, ◌⊎◌, ◌+◌, ◌*◌, ◌^◌, ◌<◌, ◌≤◌, ℕ, true, false, IfOk, OnOk, IfErr, OnErr, Err};
+ghost use Rattle.std.specs.Prelude.{◌≡◌, ◌⊎◌, ◌+◌, ◌*◌, ◌^◌, ◌<◌, ◌≤◌, ℕ, true, false, IfOk, OnOk, IfErr, OnErr, Err};
 ghost use Rattle.retrograde.specs.View.{IsFinished};
 ghost use Rattle.retrograde.specs.Stored.{IsTable, view_of};
 ghost use Rattle.retrograde.specs.Sound.{IsLocallySound};
 ghost use Rattle.frontier.specs.Causes.{HasUnitCause, Leaves};
 ghost use Rattle.frontier.specs.Entries.{WritesAtMost};
+ghost use Rattle.frontier.specs.Frames.{IsGrown};
 ghost use Rattle.frontier.specs.declared.fault.StepFault.TheVariants.{Inconsistent, Table as TableFails};
 ghost use Rattle.table.specs.declared.fault.TableFault.TheVariants.{TableFull};
 ghost use Rattle.table.specs.declared.limits.TheConstants.{PAGES_PER_ENTRY};
@@ -26,8 +27,6 @@ fn unit<M: MoveSource, T: Table>(
 ) -> Result<bool, StepFault>
     requires source { M.is_sound source.now }
     requires limit { (T.counted table.old).known ≤ 2 ^ 24 }
-    ensures limit { OnOk result ((T.counted table.new).known ≤ 2 ^ 24) }
-    ensures honest { OnOk result (T.is_honest table.old ↔ T.is_honest table.new) }
     ensures idle { IfOk result (λ done. done ≡ false → table.new ≡ table.old) }
     ensures sound { T.is_honest table.old → IsLocallySound (M.graph source.now) (M.is_wide source.now) (T.stored table.old)
         → OnOk result (IsLocallySound (M.graph source.now) (M.is_wide source.now) (T.stored table.new)) }
@@ -44,7 +43,7 @@ fn unit<M: MoveSource, T: Table>(
     ensures unfinished { T.is_honest table.old → IsTable (T.stored table.old) → OnErr result (¬ IsFinished (view_of (T.stored table.old))) }
     ensures consistent { T.is_honest table.old → IsLocallySound (M.graph source.now) (M.is_wide source.now) (T.stored table.old)
         → result ≡ Err Inconsistent → ⊥ }
-    ensures ahead { OnOk result (T.goes_on table.old table.new) }
+    ensures ok { OnOk result (IsGrown T.is_honest T.counted T.goes_on table.old table.new) }
     ensures left { IfErr result (Leaves (T.goes_on table.old table.new) (T.fails table.old table.new)) }
     ensures takes { T.is_honest table.old → IsLocallySound (M.graph source.now) (M.is_wide source.now) (T.stored table.old)
         → IfOk result (λ done. done ≡ true → (entries : ℕ) × WritesAtMost (M.graph source.now) (T.stored table.old) entries
@@ -82,7 +81,6 @@ pub fn work<M: MoveSource, T: Table>(
     requires source { M.is_sound source.now }
     requires limit { (T.counted table.old).known ≤ 2 ^ 24 }
     ensures limit { OnOk result ((T.counted table.new).known ≤ 2 ^ 24) }
-    ensures honest { OnOk result (T.is_honest table.old ↔ T.is_honest table.new) }
     ensures done { T.is_honest table.old → IsLocallySound (M.graph source.now) (M.is_wide source.now) (T.stored table.old)
         → IfOk result (λ done. AreDone (M.graph source.now) (M.is_wide source.now) units (T.stored table.old) done (T.stored table.new)) }
     ensures fits { T.is_honest table.old → IsTable (T.stored table.old) → OnOk result (IsTable (T.stored table.new)) }
@@ -93,7 +91,7 @@ pub fn work<M: MoveSource, T: Table>(
         → OnErr result (¬ IsFinished (view_of (T.stored table.old))) }
     ensures consistent { T.is_honest table.old → IsLocallySound (M.graph source.now) (M.is_wide source.now) (T.stored table.old)
         → result ≡ Err Inconsistent → ⊥ }
-    ensures ahead { OnOk result (T.goes_on table.old table.new) }
+    ensures ok { OnOk result (IsGrown T.is_honest T.counted T.goes_on table.old table.new) }
     ensures left { IfErr result (Leaves (T.goes_on table.old table.new) (T.fails table.old table.new)) }
     ensures full { T.is_honest table.old → IsLocallySound (M.graph source.now) (M.is_wide source.now) (T.stored table.old)
         → result ≡ Err (TableFails TableFull) → WantsPages (M.graph source.now) (M.is_wide source.now) (T.stored table.old) units

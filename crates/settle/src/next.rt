@@ -2,9 +2,10 @@
 ghost use Rattle.std.specs.Prelude.{◌≡◌, ◌+◌, ◌<◌, ◌≤◌, ℕ, IfOk, OnOk, IfErr, Err, slice_get, Some};
 ghost use Rattle.retrograde.specs.Stored.{IsTable, processed_count};
 ghost use Rattle.retrograde.specs.Processing.{IsNextSettled, with_processed_alone};
+ghost use Rattle.table.specs.Frames.{IsWritten};
 ghost use Rattle.table.specs.declared.fault.TableFault.{TableFault};
 ghost use Rattle.table.specs.declared.limits.TheConstants.{PAGES_PER_ENTRY};
-ghost use Rattle.frontier.specs.Frames.{IsWritten, IsGivenUp};
+ghost use Rattle.frontier.specs.Frames.{IsGivenUp};
 ghost use Rattle.frontier.specs.declared.fault.StepFault.{StepFault};
 ghost use Rattle.frontier.specs.declared.fault.StepFault.TheVariants.{Inconsistent};
 

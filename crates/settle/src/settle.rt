@@ -5,11 +5,12 @@ ghost use Rattle.retrograde.specs.declared.records.Record.{Record};
 ghost use Rattle.retrograde.specs.Stored.{IsTable};
 ghost use Rattle.retrograde.specs.Sound.{IsLocallySound};
 ghost use Rattle.retrograde.specs.Settles.{Settles};
+ghost use Rattle.table.specs.Frames.{IsWritten};
 ghost use Rattle.table.specs.declared.fault.TableFault.{TableFault};
 ghost use Rattle.table.specs.declared.limits.TheConstants.{PAGES_PER_ENTRY};
 ghost use Rattle.frontier.specs.Done.{IsUnitDone};
 ghost use Rattle.frontier.specs.Entries.{WritesAtMost};
-ghost use Rattle.frontier.specs.Frames.{IsWritten, IsGivenUp};
+ghost use Rattle.frontier.specs.Frames.{IsGivenUp};
 ghost use Rattle.frontier.specs.declared.fault.StepFault.{StepFault};
 ghost use Rattle.frontier.specs.declared.fault.StepFault.TheVariants.{Inconsistent};
 

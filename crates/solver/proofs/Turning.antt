@@ -1,6 +1,5 @@
 -- Commands one after another.
 use Rattle.std.proofs.Common.{◌≡◌, ◌≢◌, inl, ℕ, zero, suc, ◌+◌, ◌<◌, Bool, true, false, List, [], ◌∷◌, ◌++◌, length, take, map, get_or, Option, refl, sym, ◌∙◌, ap, subst, append_assoc, append-nil, arith}
-use Rattle.sector_disk.specs.Disk.{MayLeave}
 use Rattle.sector_disk.specs.aid.Moments.{goes_on_trans, leaves_more}
 use Rattle.game_file.specs.Kept.{Kept, Layout}
 use Rattle.game_file.specs.State.{State, GoesAhead}

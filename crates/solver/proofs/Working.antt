@@ -1,5 +1,5 @@
 -- Units of work are done and kept, or not.
-use Rattle.std.proofs.Common.{◌≡◌, ◌≢◌, ◌<◌, inl, ℕ, List, Option, None, Some, refl, sym, ◌∙◌, ap, subst, false, arith}
+use Rattle.std.proofs.Common.{◌≡◌, ◌≢◌, inl, ℕ, List, Option, None, Some, refl, sym, ◌∙◌, ap, subst, false}
 use Rattle.std.specs.Prelude.{IsTrue}
 use Rattle.sector_disk.specs.Disk.{GoesOn}
 use Rattle.sector_disk.specs.aid.Moments.{leaves_now, leaves_more}

@@ -1,5 +1,5 @@
 -- All that may come of a table in many sittings, each of which a stop of the power may end.
-use Rattle.std.specs.Prelude.{◌≡◌, ℕ, true, false, List, [], ◌∷◌, ◌++◌, Option, None, Some, IsTrue}
+use Rattle.std.specs.Prelude.{◌≡◌, ℕ, false, List, [], ◌∷◌, ◌++◌, Option, None, Some, IsTrue}
 use Rattle.sector_disk.specs.Disk.{Picture, Shown, Disk, LeavesOnly, MayLeave, StopsIn}
 use Rattle.game_file.specs.Calls.{IsAsked}
 use Rattle.game_file.specs.Kept.{Kept, Layout, in_any}

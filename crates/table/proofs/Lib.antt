@@ -5,4 +5,4 @@ pub mod Listing
 pub mod Whole
 pub mod Copies
 pub mod Passing
-pub mod Reading
+pub mod Frames

@@ -6,4 +6,5 @@ pub mod Fitting
 pub mod InMemory
 pub mod Records
 pub mod Faults
+pub mod Frames
 pub mod aid

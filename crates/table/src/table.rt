@@ -5,6 +5,7 @@ ghost use Rattle.retrograde.specs.Stored.{Stored, HasRecord};
 ghost use Rattle.retrograde.specs.Changes.{counts_of, with_position, with_record, with_edge, with_settled};
 ghost use Rattle.retrograde.specs.Edges.{IsAfter, IsNextEdge, HasNoMoreEdges};
 ghost use Rattle.table.specs.Faults.{NeedsNoPage};
+ghost use Rattle.table.specs.Frames.{IsRead, IsWritten};
 ghost use Rattle.table.specs.declared.fault.TableFault.{TableFault};
 ghost use Rattle.table.specs.declared.fault.TableFault.TheVariants.{OutOfMemory, TableFull};
 ghost use Rattle.table.specs.declared.limits.TheConstants.{PAGES_PER_ENTRY};
@@ -55,10 +56,7 @@ pub trait Table {
         ensures unknown { is_honest self.old → IfOk result
             (λ r. IfNone r ((i : ℕ) → slice_get (stored self.old).positions i ≡ Some packed.now.items → ⊥)) }
         ensures within { IfOk result (λ r. IfSome r (λ i. i < (counted self.old).known)) }
-        ensures same { is_honest self.old → stored self.new ≡ stored self.old }
-        ensures honest { is_honest self.old ↔ is_honest self.new }
-        ensures counts { counted self.new ≡ counted self.old }
-        ensures stays { stays self.old self.new }
+        ensures read { IsRead stored is_honest counted stays self.old self.new }
         ensures room { IfErr result NeedsNoPage }
         ensures fault { IfErr result (fails self.old self.new) };
 
@@ -66,10 +64,7 @@ pub trait Table {
     fn packed(&mut self, number: u32) -> Result<Packed, TableFault>
         requires { number < (counted self.old).known }
         ensures position { is_honest self.old → IfOk result (λ p. slice_get (stored self.old).positions number ≡ Some p.items) }
-        ensures same { is_honest self.old → stored self.new ≡ stored self.old }
-        ensures honest { is_honest self.old ↔ is_honest self.new }
-        ensures counts { counted self.new ≡ counted self.old }
-        ensures stays { stays self.old self.new }
+        ensures read { IsRead stored is_honest counted stays self.old self.new }
         ensures room { IfErr result NeedsNoPage }
         ensures fault { IfErr result (fails self.old self.new) };
 
@@ -77,10 +72,7 @@ pub trait Table {
     fn record(&mut self, number: u32) -> Result<Record, TableFault>
         requires { number < (counted self.old).known }
         ensures record { is_honest self.old → IfOk result (λ r. HasRecord (stored self.old) number r) }
-        ensures same { is_honest self.old → stored self.new ≡ stored self.old }
-        ensures honest { is_honest self.old ↔ is_honest self.new }
-        ensures counts { counted self.new ≡ counted self.old }
-        ensures stays { stays self.old self.new }
+        ensures read { IsRead stored is_honest counted stays self.old self.new }
         ensures room { IfErr result NeedsNoPage }
         ensures fault { IfErr result (fails self.old self.new) };
 
@@ -100,9 +92,7 @@ pub trait Table {
     fn set_record(&mut self, number: u32, kept: Record) -> Result<(), TableFault>
         requires { number < (counted self.old).known }
         ensures set { is_honest self.old → OnOk result (stored self.new ≡ with_record (stored self.old) number kept) }
-        ensures honest { OnOk result (is_honest self.old ↔ is_honest self.new) }
-        ensures known { OnOk result ((counted self.new).known ≡ (counted self.old).known) }
-        ensures ahead { OnOk result (goes_on self.old self.new) }
+        ensures wrote { OnOk result (IsWritten is_honest counted goes_on self.old self.new) }
         ensures fault { IfErr result (fails self.old self.new) }
         ensures takes { free self.old ≤ free self.new + PAGES_PER_ENTRY };
 
@@ -111,9 +101,8 @@ pub trait Table {
         requires successor { successor < (counted self.old).known }
         requires predecessor { predecessor < (counted self.old).known }
         ensures added { is_honest self.old → OnOk result (stored self.new ≡ with_edge (stored self.old) successor predecessor) }
-        ensures honest { OnOk result (is_honest self.old ↔ is_honest self.new) }
         ensures counts { OnOk result (counted self.new ≡ counted self.old) }
-        ensures ahead { OnOk result (goes_on self.old self.new) }
+        ensures wrote { OnOk result (IsWritten is_honest counted goes_on self.old self.new) }
         ensures fault { IfErr result (fails self.old self.new) }
         ensures takes { free self.old ≤ free self.new + PAGES_PER_ENTRY };
 
@@ -123,10 +112,7 @@ pub trait Table {
         ensures none { is_honest self.old → IfOk result (λ r. IfNone r (HasNoMoreEdges (stored self.old) successor after)) }
         ensures within { IfOk result (λ r. IfSome r (λ p. p < (counted self.old).known)) }
         ensures later { IfOk result (λ r. IfSome r (IsAfter after)) }
-        ensures same { is_honest self.old → stored self.new ≡ stored self.old }
-        ensures honest { is_honest self.old ↔ is_honest self.new }
-        ensures counts { counted self.new ≡ counted self.old }
-        ensures stays { stays self.old self.new }
+        ensures read { IsRead stored is_honest counted stays self.old self.new }
         ensures room { IfErr result NeedsNoPage }
         ensures fault { IfErr result (fails self.old self.new) };
 
@@ -134,9 +120,7 @@ pub trait Table {
     fn push_settled(&mut self, number: u32) -> Result<(), TableFault>
         requires { (counted self.old).settled < (counted self.old).known }
         ensures pushed { is_honest self.old → OnOk result (stored self.new ≡ with_settled (stored self.old) number) }
-        ensures honest { OnOk result (is_honest self.old ↔ is_honest self.new) }
-        ensures known { OnOk result ((counted self.new).known ≡ (counted self.old).known) }
-        ensures ahead { OnOk result (goes_on self.old self.new) }
+        ensures wrote { OnOk result (IsWritten is_honest counted goes_on self.old self.new) }
         ensures fault { IfErr result (fails self.old self.new) }
         ensures takes { free self.old ≤ free self.new + PAGES_PER_ENTRY };
 
@@ -144,10 +128,7 @@ pub trait Table {
     fn settled_at(&mut self, place: u32) -> Result<u32, TableFault>
         requires { place < (counted self.old).settled }
         ensures number { is_honest self.old → IfOk result (λ i. slice_get (stored self.old).order place ≡ Some i) }
-        ensures same { is_honest self.old → stored self.new ≡ stored self.old }
-        ensures honest { is_honest self.old ↔ is_honest self.new }
-        ensures counts { counted self.new ≡ counted self.old }
-        ensures stays { stays self.old self.new }
+        ensures read { IsRead stored is_honest counted stays self.old self.new }
         ensures room { IfErr result NeedsNoPage }
         ensures fault { IfErr result (fails self.old self.new) };
 

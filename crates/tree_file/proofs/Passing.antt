@@ -12,6 +12,11 @@ pub either_way : {X E A C : Type 0} {B : E → Type 0} (r : Result X E) → (A �
 either_way (Ok x) one other is cause = one is
 either_way (Err e) one other is cause = other e cause
 
+-- what follows of an answer
+pub on_ok : {X E : Type 0} (P Q : Type 0) (r : Result X E) → (P → Q) → OnOk r P → OnOk r Q
+on_ok P Q (Ok x) so is = so is
+on_ok P Q (Err e) so is = tt
+
 -- a call of the table that was answered, or was not, is one of its file
 pub files_on : {X : Type 0} (r : Result X TableFault) (old new : Work) (game : Option TreeSlot) → OnOk r (WorkGoesOn old new)
     → OnOk r (FileGoesOn (file_of old game) (file_of new game))

@@ -1,5 +1,5 @@
 -- A table at work after a call.
-use Rattle.std.proofs.Common.{◌≡◌, ◌≢◌, ℕ, ◌^◌, ◌≤◌, Bool, true, List, Option, Some, None, Result, Ok, Err, refl, sym, subst}
+use Rattle.std.proofs.Common.{◌≡◌, ◌≢◌, ℕ, ◌^◌, ◌≤◌, Bool, true, List, Option, Some, None, Result, Ok, Err, refl, sym, ap, subst}
 use Rattle.std.specs.Result.{IfOk, IfErr}
 use Rattle.std.specs.Option.{IfSome, IfNone}
 use mathlib.Core.Logic.{∥∥₁_elim, ∥∥₁_prop}
@@ -9,6 +9,7 @@ use Rattle.page_store.specs.Store.{Store, StoreWorks, IsUnchanged, reads}
 use Rattle.retrograde.specs.Edges.{IsAfter, IsNextEdge, HasNoMoreEdges}
 use Rattle.retrograde.specs.Stored.{Stored}
 use Rattle.table.specs.Faults.{NeedsNoPage}
+use Rattle.table.specs.Frames.{IsRead, IsWritten}
 use Rattle.table.specs.declared.fault.TableFault.{TableFault}
 use Rattle.table.specs.declared.fault.TableFault.TheVariants.{Disk, Damaged, TableFull, OutOfMemory, Closed}
 use Rattle.tree_table.specs.declared.slot.TreeSlot.{TreeSlot}
@@ -17,7 +18,7 @@ use Rattle.tree_table.specs.declared.last.Seen.{Seen}
 use Rattle.tree_table.specs.Last.{IsSeenIn}
 use Rattle.tree_table.specs.Spelled.{table_in}
 use Rattle.tree_table.specs.Working.{Work, work_of, table_now, IsHonestWork, HoldsTable, HoldsWork, table_there, WorkStays, WorkGoesOn, NoAnswerCause, WorkFails}
-use Rattle.tree_table.specs.aid.Frames.{honest_before, holds_still, table_same}
+use Rattle.tree_table.specs.aid.Frames.{honest_on, honest_before, holds_still, table_same}
 use Rattle.tree_table.specs.aid.Spelling.{table_is}
 
 -- a table in memory is a set of one value: two ways in which two are the same are one
@@ -118,7 +119,22 @@ pub only_read : (slot : TreeSlot) (text : List ℕ) (torn : Bool) (old new : Sto
     → WorkStays (work_of slot text torn old) (work_of slot text torn new)
 only_read slot text torn old new works same = record { works = works; unchanged = same; slot = refl; text = refl; torn = refl }
 
--- and was refused
+-- what a call leaves of a table, by what it leaves of the work in it
+module _ {T : Type 0} (work : T → Work) (old new : T) where
+  pub reads_so : WorkStays (work old) (work new)
+      → IsRead (λ t. table_now (work t)) (λ t. IsHonestWork (work t)) (λ t. (work t).slot.sizes.counts) (λ a b. WorkStays (work a) (work b)) old new
+  reads_so stays = record {
+    same = λ honest. table_same (work old) (work new) stays honest.disk;
+    honest = (honest_on stays.works stays.torn, honest_before stays.works stays.torn);
+    counts = ap (λ (s : TreeSlot). s.sizes.counts) stays.slot;
+    stays = stays;
+  }
+
+  pub writes_so : WorkGoesOn (work old) (work new) → (work new).slot.sizes.counts.known ≡ (work old).slot.sizes.counts.known
+      → IsWritten (λ t. IsHonestWork (work t)) (λ t. (work t).slot.sizes.counts) (λ a b. WorkGoesOn (work a) (work b)) old new
+  writes_so ahead known = record { honest = (honest_on ahead.works ahead.torn, honest_before ahead.works ahead.torn); known = known; ahead = ahead }
+
+-- a call that reads, and was refused
 pub read_refused : {X : Type 0} (a b : Work) (r : Result X TableFault) → WorkStays a b → IfErr r (ReadCause IsNoTable a.slot a.store b.store) → IfErr r (WorkFails a b)
 read_refused a b (Ok x) stays cause = tt
 read_refused a b (Err fault) stays cause = read_fails_so a b fault stays cause

@@ -1,5 +1,5 @@
 //! The cell that was looked at or written last stays in memory: a unit of work asks for the same one several times.
-ghost use Rattle.std.specs.Prelude.{◌≡◌, ◌+◌, ◌≤◌, ◌<◌, ◌↔◌, ℕ, List, None, length};
+ghost use Rattle.std.specs.Prelude.{◌≡◌, ◌+◌, ◌≤◌, ◌<◌, ℕ, List, None, length};
 ghost use Rattle.std.specs.Prelude.{OnOk, OnErr, IfErr, IfSome, IsTrue};
 ghost use Rattle.page_store.specs.Marks.{free_count};
 ghost use Rattle.page_store.specs.Store.{StoreWorks, IsUnchanged};
@@ -7,6 +7,7 @@ ghost use Rattle.position_pack.specs.declared.limits.TheConstants.{MAX_PACKED};
 ghost use Rattle.retrograde.specs.Changes.{with_record};
 ghost use Rattle.retrograde.specs.Stored.{Stored};
 ghost use Rattle.table.specs.Faults.{NeedsNoPage};
+ghost use Rattle.table.specs.Frames.{IsWritten};
 ghost use Rattle.table.specs.declared.limits.TheConstants.{PAGES_PER_ENTRY};
 ghost use Rattle.tree_table.specs.Causes.{IsNoTable, ReadCause};
 ghost use Rattle.tree_table.specs.Last.{HasSeen, IsSeenIn};
@@ -116,9 +117,8 @@ impl<P: Pages> TreeTable<P> {
         requires seen { HasSeen self.old.seen number }
         ensures set { IsHonestWork (work_in self.old)
             → OnOk result (table_now (work_in self.new) ≡ with_record (table_now (work_in self.old)) number kept) }
-        ensures honest { OnOk result (IsHonestWork (work_in self.old) ↔ IsHonestWork (work_in self.new)) }
-        ensures known { OnOk result ((work_in self.new).slot.sizes.counts.known ≡ (work_in self.old).slot.sizes.counts.known) }
-        ensures ahead { OnOk result (WorkGoesOn (work_in self.old) (work_in self.new)) }
+        ensures wrote { OnOk result
+            (IsWritten IsHonestWork (λ work. work.slot.sizes.counts) WorkGoesOn (work_in self.old) (work_in self.new)) }
         ensures fault { IfErr result (WorkFails (work_in self.old) (work_in self.new)) }
         ensures takes { free_count (work_in self.old).store.marks
             ≤ free_count (work_in self.new).store.marks + PAGES_PER_ENTRY }

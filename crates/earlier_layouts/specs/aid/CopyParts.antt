@@ -1,15 +1,6 @@
--- How far a table is copied, and what is left of the two.
-use Rattle.std.specs.Prelude.{◌≡◌, ◌↔◌, ℕ, nat_lt, ◌&&◌, false, List, [], take}
-use Rattle.retrograde.specs.declared.records.Counts.{Counts}
+-- How far a table is copied, and what is left of the one that is written.
+use Rattle.std.specs.Prelude.{◌↔◌, ℕ, nat_lt, ◌&&◌, false, List, [], take}
 use Rattle.retrograde.specs.Stored.{Stored}
-
--- a table that is only read, in the words of its kind: what it stores and counts is as it was
-pub record HasOnlyRead {T : Type 0} (stored : T → Stored (List ℕ)) (IsHonest : T → Type 0) (counted : T → Counts)
-    (Stays : T → T → Type 0) (old new : T) : Type 0 where
-  pub same : IsHonest old → stored new ≡ stored old
-  pub honest : IsHonest old ↔ IsHonest new
-  pub counts : counted new ≡ counted old
-  pub stays : Stays old new
 
 -- a table that is written goes on, and is as honest as it was
 pub record HasGoneOn {T : Type 0} (IsHonest : T → Type 0) (GoesOn : T → T → Type 0) (old new : T) : Type 0 where

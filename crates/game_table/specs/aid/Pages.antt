@@ -1,5 +1,5 @@
 -- How many pages units of work may take where few moves lead from each position and to it.
-use Rattle.std.proofs.Common.{◌≡◌, ◌⊎◌, refl, sym, ◌∙◌, ap, subst, ℕ, zero, suc, ◌+◌, ◌*◌, ◌<◌, ◌≤◌, Bool, true, false, if◌then◌else◌, List, [], ◌∷◌, length, get_or, slice_get, Some, IsSome, AllPairs, Contains, arith}
+use Rattle.std.proofs.Common.{◌≡◌, refl, sym, ◌∙◌, ap, subst, ℕ, zero, suc, ◌+◌, ◌*◌, ◌<◌, ◌≤◌, Bool, true, false, if◌then◌else◌, List, [], ◌∷◌, length, get_or, slice_get, Some, IsSome, AllPairs, Contains, arith}
 use Rattle.std.specs.Cmp.{IsTotalOrder}
 use Rattle.std.specs.List.Sorted.{IsStrictlySortedBy}
 use Rattle.std.specs.Ordering.{ordering_reverse}
@@ -12,14 +12,13 @@ use Rattle.std.proofs.lemmas.Map.Keys.{sorted_tail}
 use Rattle.std.proofs.lemmas.Map.Views.{All-after_first}
 use Rattle.std.proofs.lemmas.Option.{slice_get-get_or}
 use Rattle.legal_moves.proofs.Distinct.{distinct-le}
-use Rattle.retrograde.specs.Graph.{Graph, IsReachable}
+use Rattle.retrograde.specs.Graph.{Graph}
 use Rattle.retrograde.specs.Sound.{IsLocallySound}
 use Rattle.retrograde.specs.Stored.{Stored, count_below, expanded_count, processed_count, view_of}
 use Rattle.retrograde.specs.Successors.{packed_cmp}
 use Rattle.retrograde.proofs.Sound.{sound_right}
 use Rattle.frontier.specs.Entries.{WritesAtMost, expands, processes}
-use Rattle.game_table.specs.Entries.{WantsPages, WriteAtMost, AreAtMost, HasAtMostMoves, pages_taken}
-use Rattle.table.specs.declared.limits.TheConstants.{PAGES_PER_ENTRY}
+use Rattle.game_table.specs.Entries.{WantsPages, WriteAtMost, HasAtMostMoves, pages_taken}
 
 -- what is in order differs
 module _ {P : Type 0} (cmp : P → P → Ordering) (laws : IsTotalOrder cmp) where

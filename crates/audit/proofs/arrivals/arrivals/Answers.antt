@@ -8,7 +8,7 @@ use Rattle.retrograde.specs.View.{HasNumber}
 use Rattle.retrograde.specs.Stored.{Stored, IsTable, view_of, expanded_count}
 use Rattle.audit.specs.aid.Edges.{CountsIf, IsMoveEdge, AreArrivals}
 use Rattle.audit.proofs.ArrivalLemmas.{expanded_known, no_arrivals, arrivals_next}
-use Rattle.table.proofs.Reading.{unread, read_then}
+use Rattle.table.proofs.Frames.{unread, read_then}
 use Rattle.audit.proofs.arrivals.arrivals.Goals as goal
 
 pub loop-from-init : goal.loop-from-init

@@ -1,7 +1,7 @@
 use Rattle.std.proofs.Common.{◌≡◌, length}
 use Rattle.retrograde.specs.Stored.{IsTable}
 use Rattle.audit.specs.aid.Edges.{AreArrivals}
-use Rattle.table.specs.aid.Reading.{IsRead}
+use Rattle.table.specs.Frames.{IsRead}
 use Rattle.audit.proofs.arrivals.arrivals.Given as goal
 
 abbrev pub invariant-loop-from : goal.invariant-loop-from

@@ -8,7 +8,7 @@ use Rattle.table.specs.Memory.{bytes_of_each}
 use Rattle.audit.specs.aid.Edges.{CountsIf}
 use Rattle.audit.proofs.ArrivalLemmas.{counted_none, counted_next, counted_all}
 use Rattle.audit.proofs.Lists.{item_at}
-use Rattle.table.proofs.Reading.{unread, read_then}
+use Rattle.table.proofs.Frames.{unread, read_then}
 use Rattle.audit.proofs.arrivals.count_each.Goals as goal
 
 pub loop-position-init : goal.loop-position-init

@@ -5,7 +5,7 @@ use Rattle.retrograde.specs.Stored.{IsTable, view_of}
 use Rattle.table.specs.Memory.{bytes_of_each}
 use Rattle.audit.specs.aid.Edges.{CountsIf}
 use Rattle.audit.proofs.ArrivalLemmas.{IsBefore}
-use Rattle.table.specs.aid.Reading.{IsRead}
+use Rattle.table.specs.Frames.{IsRead}
 use Rattle.audit.proofs.arrivals.count_each.Given as goal
 
 abbrev pub invariant-loop-position : goal.invariant-loop-position

@@ -8,17 +8,17 @@ use Rattle.table.specs.Memory.{bytes_of_each}
 use Rattle.audit.specs.aid.Edges.{CountsIf}
 use Rattle.audit.proofs.ArrivalLemmas.{counted_moves}
 use Rattle.audit.proofs.MoveLemmas.{ascending_differ}
-use Rattle.table.proofs.Reading.{read_by, read_then}
+use Rattle.table.proofs.Frames.{read_then}
 use Rattle.audit.proofs.arrivals.count_moves.Goals as goal
 
 pub returns-clause-counted : goal.returns-clause-counted
 returns-clause-counted g c = λ honest table within i x at.
-    let h = c.in_ok-packed.ensures.honest.0 honest in
+    let h = c.in_ok-packed.ensures.read.honest.0 honest in
     let graph = g.M.GameGraph.graph c.args.source.now in
     let ys = bytes_of_each c.in_ok-found.found.items in
     let each = subst (λ (t : Stored (List ℕ)). IsTable t → AllPairs ◌≢◌ ys → (j : ℕ) (z : List ℕ) → HasNumber (view_of t) j z
     → CountsIf (Contains ys z × (t.has_edge j c.args.from ≡ true)) c.args.arrivals.now.items c.count_each.new.arrivals.items j)
-    (c.in_ok-packed.ensures.same honest) (rw c.deref.ensures.value at c.in_ok-count_each.ensures.counted h) in
+    (c.in_ok-packed.ensures.read.same honest) (rw c.deref.ensures.value at c.in_ok-count_each.ensures.counted h) in
     counted_moves graph (g.T.Table.stored c.args.table.now) i c.args.from x c.in_ok-packed.packed.items ys c.args.arrivals.now.items c.count_each.new.arrivals.items
     (c.in_ok-packed.ensures.position honest) within c.in_ok-found.ensures.exact
     (each table (ascending_differ ys c.in_ok-found.ensures.exact.ascending) i x at)
@@ -52,8 +52,7 @@ returns-in_err-found-clause-fault g c =
 
 pub returns-in_err-count_each-clause-read : goal.returns-in_err-count_each-clause-read
 returns-in_err-count_each-clause-read g c =
-    let packed = c.in_ok-packed.ensures in
-    read_then g.met.T.Table.stays_then (read_by packed.same packed.honest packed.counts packed.stays) c.in_err-count_each.ensures.read
+    read_then g.met.T.Table.stays_then c.in_ok-packed.ensures.read c.in_err-count_each.ensures.read
 
 pub returns-in_err-count_each-clause-room : goal.returns-in_err-count_each-clause-room
 returns-in_err-count_each-clause-room g c =
@@ -62,7 +61,7 @@ returns-in_err-count_each-clause-room g c =
 pub returns-in_err-count_each-clause-fault : goal.returns-in_err-count_each-clause-fault
 returns-in_err-count_each-clause-fault g c =
     passed_on _ c.from_residual-in_err-count_each.result _ c.from_residual-in_err-count_each.ensures
-    (g.met.T.Table.fails_since _ _ _ _ (g.met.T.Table.stays_goes_on _ _ c.in_ok-packed.ensures.stays) c.in_err-count_each.ensures.fault)
+    (g.met.T.Table.fails_since _ _ _ _ (g.met.T.Table.stays_goes_on _ _ c.in_ok-packed.ensures.read.stays) c.in_err-count_each.ensures.fault)
 
 pub returns-in_err-count_each-clause-wide : goal.returns-in_err-count_each-clause-wide
 returns-in_err-count_each-clause-wide g c =
@@ -70,8 +69,7 @@ returns-in_err-count_each-clause-wide g c =
 
 pub returns-clause-read : goal.returns-clause-read
 returns-clause-read g c =
-    let packed = c.in_ok-packed.ensures in
-    read_then g.met.T.Table.stays_then (read_by packed.same packed.honest packed.counts packed.stays) c.in_ok-count_each.ensures.read
+    read_then g.met.T.Table.stays_then c.in_ok-packed.ensures.read c.in_ok-count_each.ensures.read
 
 pub returns-clause-wide : goal.returns-clause-wide
 returns-clause-wide g c =

@@ -2,7 +2,7 @@ use Rattle.audit.proofs.Passing.{passed_on}
 use Rattle.std.proofs.Common.{◌≡◌, ◌<◌, ap, subst, ℕ, List, Some, true, false, length, rules, arith, slice_get, slice_set}
 use Rattle.retrograde.specs.Stored.{Stored}
 use Rattle.audit.proofs.ArrivalLemmas.{unknown_counted, none_counted, one_counted}
-use Rattle.table.proofs.Reading.{read_by, read_then}
+use Rattle.table.proofs.Frames.{read_then}
 use Rattle.audit.proofs.arrivals.count_one.Goals as goal
 
 pub returns-in_default-clause-counted : goal.returns-in_default-clause-counted
@@ -12,20 +12,20 @@ returns-in_default-clause-counted g c = λ honest table i x at.
 
 pub returns-then-not-branch-clause-counted : goal.returns-then-not-branch-clause-counted
 returns-then-not-branch-clause-counted g c = λ honest table i x at.
-    let h = c.in_ok-number.ensures.honest.0 honest in
+    let h = c.in_ok-number.ensures.read.honest.0 honest in
     let stored = g.T.Table.stored c.args.table.now in
     let found : slice_get stored.positions c.in-Some.number ≡ Some c.args.position.now.items = rw c.in-Some.is at c.in_ok-number.ensures.found honest in
-    let there = subst (λ (t : Stored (List ℕ)). c.in_ok-has_edge.field-0 ≡ t.has_edge c.in-Some.number c.args.from) (c.in_ok-number.ensures.same honest) (c.in_ok-has_edge.ensures.there h) in
+    let there = subst (λ (t : Stored (List ℕ)). c.in_ok-has_edge.field-0 ≡ t.has_edge c.in-Some.number c.args.from) (c.in_ok-number.ensures.read.same honest) (c.in_ok-has_edge.ensures.there h) in
     let fails : c.in_ok-has_edge.field-0 ≡ false = search rules in
     let none : stored.has_edge c.in-Some.number c.args.from ≡ false = cc in
     none_counted stored i c.args.from x c.args.position.now.items at table c.in-Some.number found c.args.arrivals.now.items none
 
 pub returns-clause-counted : goal.returns-clause-counted
 returns-clause-counted g c = λ honest table i x at.
-    let h = c.in_ok-number.ensures.honest.0 honest in
+    let h = c.in_ok-number.ensures.read.honest.0 honest in
     let stored = g.T.Table.stored c.args.table.now in
     let found : slice_get stored.positions c.in-Some.number ≡ Some c.args.position.now.items = rw c.in-Some.is at c.in_ok-number.ensures.found honest in
-    let there = subst (λ (t : Stored (List ℕ)). c.in_ok-has_edge.field-0 ≡ t.has_edge c.in-Some.number c.args.from) (c.in_ok-number.ensures.same honest) (c.in_ok-has_edge.ensures.there h) in
+    let there = subst (λ (t : Stored (List ℕ)). c.in_ok-has_edge.field-0 ≡ t.has_edge c.in-Some.number c.args.from) (c.in_ok-number.ensures.read.same honest) (c.in_ok-has_edge.ensures.there h) in
     let passes : c.in_ok-has_edge.field-0 ≡ true = search rules in
     let edge : stored.has_edge c.in-Some.number c.args.from ≡ true = cc in
     let few : c.in-Some.number < (g.T.Table.counted c.args.table.now).known = rw c.in-Some.is at c.in_ok-number.ensures.within in
@@ -44,8 +44,7 @@ returns-in_err-number-clause-fault g c =
 
 pub returns-in_err-has_edge-clause-read : goal.returns-in_err-has_edge-clause-read
 returns-in_err-has_edge-clause-read g c =
-    let number = c.in_ok-number.ensures in
-    read_then g.met.T.Table.stays_then (read_by number.same number.honest number.counts number.stays) c.in_err-has_edge.ensures.read
+    read_then g.met.T.Table.stays_then c.in_ok-number.ensures.read c.in_err-has_edge.ensures.read
 
 pub returns-in_err-has_edge-clause-room : goal.returns-in_err-has_edge-clause-room
 returns-in_err-has_edge-clause-room g c =
@@ -54,14 +53,12 @@ returns-in_err-has_edge-clause-room g c =
 pub returns-in_err-has_edge-clause-fault : goal.returns-in_err-has_edge-clause-fault
 returns-in_err-has_edge-clause-fault g c =
     passed_on _ c.from_residual-in_err-has_edge.result _ c.from_residual-in_err-has_edge.ensures
-    (g.met.T.Table.fails_since _ _ _ _ (g.met.T.Table.stays_goes_on _ _ c.in_ok-number.ensures.stays) c.in_err-has_edge.ensures.fault)
+    (g.met.T.Table.fails_since _ _ _ _ (g.met.T.Table.stays_goes_on _ _ c.in_ok-number.ensures.read.stays) c.in_err-has_edge.ensures.fault)
 
 pub returns-then-not-branch-clause-read : goal.returns-then-not-branch-clause-read
 returns-then-not-branch-clause-read g c =
-    let number = c.in_ok-number.ensures in
-    read_then g.met.T.Table.stays_then (read_by number.same number.honest number.counts number.stays) c.in_ok-has_edge.ensures.read
+    read_then g.met.T.Table.stays_then c.in_ok-number.ensures.read c.in_ok-has_edge.ensures.read
 
 pub returns-clause-read : goal.returns-clause-read
 returns-clause-read g c =
-    let number = c.in_ok-number.ensures in
-    read_then g.met.T.Table.stays_then (read_by number.same number.honest number.counts number.stays) c.in_ok-has_edge.ensures.read
+    read_then g.met.T.Table.stays_then c.in_ok-number.ensures.read c.in_ok-has_edge.ensures.read

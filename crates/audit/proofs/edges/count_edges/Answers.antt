@@ -4,7 +4,7 @@ use Rattle.retrograde.specs.declared.records.Counts.{Counts}
 use Rattle.retrograde.specs.Stored.{Stored, count_below}
 use Rattle.retrograde.specs.Edges.{IsAfter, IsNextEdge, HasNoMoreEdges}
 use Rattle.audit.proofs.EdgeLemmas.{count_next, count_all, count_full, after_bound}
-use Rattle.table.proofs.Reading.{read_by, read_then}
+use Rattle.table.proofs.Frames.{read_then}
 use Rattle.audit.proofs.edges.count_edges.Goals as goal
 
 pub loop-count-preserved : goal.loop-count-preserved
@@ -13,7 +13,7 @@ loop-count-preserved g c = record {
       omega (arith, after_bound c.loop-count.after c.in-Some.from later, c.loop-count.invariant.few);
   within = let p : c.in-Some.from < (g.T.Table.counted c.loop-count.table).known = rw c.in-Some.is at c.in_ok-from.ensures.within in
       omega (arith, ap (λ (k : Counts). k.known) c.loop-count.invariant.read.counts);
-  read = read_then g.met.T.Table.stays_then c.loop-count.invariant.read (read_by c.in_ok-from.ensures.same c.in_ok-from.ensures.honest c.in_ok-from.ensures.counts c.in_ok-from.ensures.stays);
+  read = read_then g.met.T.Table.stays_then c.loop-count.invariant.read c.in_ok-from.ensures.read;
   counted = λ honest.
       let h = c.loop-count.invariant.read.honest.0 honest in
       let edge = rw c.in-Some.is at c.in_ok-from.ensures.next h in
@@ -43,8 +43,7 @@ returns-clause-count g c = λ honest.
 
 pub returns-in_err-from-clause-read : goal.returns-in_err-from-clause-read
 returns-in_err-from-clause-read g c =
-    let from = c.in_err-from.ensures in
-    read_then g.met.T.Table.stays_then c.loop-count.invariant.read (read_by from.same from.honest from.counts from.stays)
+    read_then g.met.T.Table.stays_then c.loop-count.invariant.read c.in_err-from.ensures.read
 
 pub returns-in_err-from-clause-room : goal.returns-in_err-from-clause-room
 returns-in_err-from-clause-room g c =
@@ -57,5 +56,4 @@ returns-in_err-from-clause-fault g c =
 
 pub returns-in_default-clause-read : goal.returns-in_default-clause-read
 returns-in_default-clause-read g c =
-    let from = c.in_ok-from.ensures in
-    read_then g.met.T.Table.stays_then c.loop-count.invariant.read (read_by from.same from.honest from.counts from.stays)
+    read_then g.met.T.Table.stays_then c.loop-count.invariant.read c.in_ok-from.ensures.read

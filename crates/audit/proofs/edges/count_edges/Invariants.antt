@@ -1,7 +1,7 @@
 use Rattle.std.proofs.Common.{◌≡◌, ◌≤◌}
 use Rattle.retrograde.specs.Stored.{count_below}
 use Rattle.audit.proofs.EdgeLemmas.{bound_of}
-use Rattle.table.specs.aid.Reading.{IsRead}
+use Rattle.table.specs.Frames.{IsRead}
 use Rattle.audit.proofs.edges.count_edges.Given as goal
 
 abbrev pub invariant-loop-count : goal.invariant-loop-count

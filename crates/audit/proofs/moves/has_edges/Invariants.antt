@@ -1,5 +1,5 @@
 use Rattle.std.proofs.Common.{◌≡◌, ◌<◌, ℕ, true, get_or}
-use Rattle.table.specs.aid.Reading.{IsRead}
+use Rattle.table.specs.Frames.{IsRead}
 use Rattle.audit.proofs.moves.has_edges.Given as goal
 
 abbrev pub invariant-loop-number : goal.invariant-loop-number

@@ -5,7 +5,7 @@ use Rattle.retrograde.specs.declared.records.Counts.{Counts}
 use Rattle.retrograde.specs.Stored.{Stored}
 use Rattle.table.specs.Memory.{bytes_of_each}
 use Rattle.audit.proofs.Lists.{item_at, contains_at, take_at, zip_push, all_push}
-use Rattle.table.proofs.Reading.{read_by, read_then}
+use Rattle.table.proofs.Frames.{read_then}
 use Rattle.audit.proofs.moves.numbers_of.Goals as goal
 
 pub returns-in_default-clause-unknown : goal.returns-in_default-clause-unknown
@@ -26,7 +26,7 @@ loop-position-preserved g c = record {
       let few : c.in-Some.number < (g.T.Table.counted c.loop-position.table).known = rw c.in-Some.is at c.in_ok-number.ensures.within in
       let few' : c.in-Some.number < (g.T.Table.counted c.args.table.now).known = omega (arith, few, ap (λ (k : Counts). k.known) c.loop-position.invariant.read.counts) in
       rw items (all_push (λ j. j < (g.T.Table.counted c.args.table.now).known) c.loop-position.numbers.items c.in-Some.number c.loop-position.invariant.within few');
-  read = read_then g.met.T.Table.stays_then c.loop-position.invariant.read (read_by c.in_ok-number.ensures.same c.in_ok-number.ensures.honest c.in_ok-number.ensures.counts c.in_ok-number.ensures.stays);
+  read = read_then g.met.T.Table.stays_then c.loop-position.invariant.read c.in_ok-number.ensures.read;
   numbers = λ honest.
       let h = c.loop-position.invariant.read.honest.0 honest in
       let y = c.position-item.result.items in
@@ -41,8 +41,7 @@ loop-position-preserved g c = record {
 
 pub returns-in_err-number-clause-read : goal.returns-in_err-number-clause-read
 returns-in_err-number-clause-read g c =
-    let number = c.in_err-number.ensures in
-    read_then g.met.T.Table.stays_then c.loop-position.invariant.read (read_by number.same number.honest number.counts number.stays)
+    read_then g.met.T.Table.stays_then c.loop-position.invariant.read c.in_err-number.ensures.read
 
 pub returns-in_err-number-clause-room : goal.returns-in_err-number-clause-room
 returns-in_err-number-clause-room g c =
@@ -59,13 +58,11 @@ returns-in_err-number-clause-narrow g c =
 
 pub returns-in_default-clause-read : goal.returns-in_default-clause-read
 returns-in_default-clause-read g c =
-    let number = c.in_ok-number.ensures in
-    read_then g.met.T.Table.stays_then c.loop-position.invariant.read (read_by number.same number.honest number.counts number.stays)
+    read_then g.met.T.Table.stays_then c.loop-position.invariant.read c.in_ok-number.ensures.read
 
 pub returns-in_err-push-clause-read : goal.returns-in_err-push-clause-read
 returns-in_err-push-clause-read g c =
-    let number = c.in_ok-number.ensures in
-    read_then g.met.T.Table.stays_then c.loop-position.invariant.read (read_by number.same number.honest number.counts number.stays)
+    read_then g.met.T.Table.stays_then c.loop-position.invariant.read c.in_ok-number.ensures.read
 
 pub returns-in_err-push-clause-room : goal.returns-in_err-push-clause-room
 returns-in_err-push-clause-room g c =

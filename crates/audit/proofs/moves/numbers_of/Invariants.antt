@@ -1,7 +1,7 @@
 use Rattle.std.proofs.Common.{◌≡◌, ◌<◌, All, Some, slice_get, take}
 use Rattle.std.specs.List.{AllZip}
 use Rattle.table.specs.Memory.{bytes_of_each}
-use Rattle.table.specs.aid.Reading.{IsRead}
+use Rattle.table.specs.Frames.{IsRead}
 use Rattle.audit.proofs.moves.numbers_of.Given as goal
 
 abbrev pub invariant-loop-position : goal.invariant-loop-position

@@ -3,12 +3,12 @@ use Rattle.std.proofs.Common.{◌≡◌, ◌++◌, ◌∷◌, [], subst, ℕ, Li
 use Rattle.std.proofs.lemmas.List.{take_more}
 use Rattle.retrograde.specs.Stored.{Stored, HasRecord}
 use Rattle.audit.proofs.Lists.{zip_push}
-use Rattle.table.proofs.Reading.{read_by, read_then}
+use Rattle.table.proofs.Frames.{read_then}
 use Rattle.audit.proofs.moves.records_of.Goals as goal
 
 pub loop-number-preserved : goal.loop-number-preserved
 loop-number-preserved g c = record {
-  read = read_then g.met.T.Table.stays_then c.loop-number.invariant.read (read_by c.in_ok-record.ensures.same c.in_ok-record.ensures.honest c.in_ok-record.ensures.counts c.in_ok-record.ensures.stays);
+  read = read_then g.met.T.Table.stays_then c.loop-number.invariant.read c.in_ok-record.ensures.read;
   records = λ honest.
       let h = c.loop-number.invariant.read.honest.0 honest in
       let r = c.in_ok-record.field-0 in
@@ -23,8 +23,7 @@ loop-number-preserved g c = record {
 
 pub returns-in_err-record-clause-read : goal.returns-in_err-record-clause-read
 returns-in_err-record-clause-read g c =
-    let kept = c.in_err-record.ensures in
-    read_then g.met.T.Table.stays_then c.loop-number.invariant.read (read_by kept.same kept.honest kept.counts kept.stays)
+    read_then g.met.T.Table.stays_then c.loop-number.invariant.read c.in_err-record.ensures.read
 
 pub returns-in_err-record-clause-room : goal.returns-in_err-record-clause-room
 returns-in_err-record-clause-room g c =
@@ -41,8 +40,7 @@ returns-in_err-record-clause-narrow g c =
 
 pub returns-in_err-push-clause-read : goal.returns-in_err-push-clause-read
 returns-in_err-push-clause-read g c =
-    let kept = c.in_ok-record.ensures in
-    read_then g.met.T.Table.stays_then c.loop-number.invariant.read (read_by kept.same kept.honest kept.counts kept.stays)
+    read_then g.met.T.Table.stays_then c.loop-number.invariant.read c.in_ok-record.ensures.read
 
 pub returns-in_err-push-clause-room : goal.returns-in_err-push-clause-room
 returns-in_err-push-clause-room g c =

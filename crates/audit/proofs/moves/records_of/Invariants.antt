@@ -1,7 +1,7 @@
 use Rattle.std.proofs.Common.{take}
 use Rattle.std.specs.List.{AllZip}
 use Rattle.retrograde.specs.Stored.{HasRecord}
-use Rattle.table.specs.aid.Reading.{IsRead}
+use Rattle.table.specs.Frames.{IsRead}
 use Rattle.audit.proofs.moves.records_of.Given as goal
 
 abbrev pub invariant-loop-number : goal.invariant-loop-number

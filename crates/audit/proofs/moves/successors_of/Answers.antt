@@ -5,7 +5,7 @@ use Rattle.std.specs.List.{AllZip}
 use Rattle.retrograde.specs.Stored.{Stored, HasRecord}
 use Rattle.table.specs.Memory.{bytes_of_each}
 use Rattle.audit.proofs.MoveLemmas.{unknown_fails, no_edge_fails, not_counted, counted}
-use Rattle.table.proofs.Reading.{read_then}
+use Rattle.table.proofs.Frames.{read_then}
 use Rattle.audit.proofs.moves.successors_of.Goals as goal
 
 pub returns-in_default-clause-fails : goal.returns-in_default-clause-fails

@@ -4,7 +4,7 @@ use Rattle.std.proofs.Common.{◌≡◌, ◌∙◌, sym, subst, ℕ, List, lengt
 use Rattle.retrograde.specs.Stored.{Stored, count_below}
 use Rattle.audit.proofs.ArrivalLemmas.{edges_are_moves, as_many_edges}
 use Rattle.audit.proofs.LowestLemmas.{stray_lower, stray_there, no_stray}
-use Rattle.table.proofs.Reading.{read_then}
+use Rattle.table.proofs.Frames.{read_then}
 use Rattle.audit.proofs.number.failing.Goals as goal
 
 pub returns-then-is_lower-clause-lowest : goal.returns-then-is_lower-clause-lowest

@@ -5,16 +5,16 @@ use Rattle.std.proofs.lemmas.Option.{same_Some}
 use Rattle.retrograde.specs.Audit.{IsReached}
 use Rattle.retrograde.specs.Stored.{Stored, IsTable, HasRecord, expanded_count}
 use Rattle.audit.specs.aid.Conditions.{IsLowest, IsFloor, own_condition}
-use Rattle.table.proofs.Reading.{read_by, read_then}
+use Rattle.table.proofs.Frames.{read_then}
 use Rattle.audit.proofs.number.own_failing.Goals as goal
 
 pub returns-clause-lowest : goal.returns-clause-lowest
 returns-clause-lowest g c = λ honest table floor x at.
-    let h1 = c.in_ok-at.ensures.honest.0 honest in
-    let h2 = c.in_ok-kept.ensures.honest.0 h1 in
+    let h1 = c.in_ok-at.ensures.read.honest.0 honest in
+    let h2 = c.in_ok-kept.ensures.read.honest.0 h1 in
     let h3 = c.in_ok-is_reached.ensures.read.honest.0 h2 in
-    let same1 = c.in_ok-at.ensures.same honest in
-    let same2 = c.in_ok-kept.ensures.same h1 ∙ same1 in
+    let same1 = c.in_ok-at.ensures.read.same honest in
+    let same2 = c.in_ok-kept.ensures.read.same h1 ∙ same1 in
     let same3 = c.in_ok-is_reached.ensures.read.same h2 ∙ same2 in
     let graph = g.M.GameGraph.graph c.args.source.now in
     let stored = g.T.Table.stored c.args.table.now in
@@ -42,9 +42,7 @@ returns-in_err-at-clause-wide g c =
 
 pub returns-in_err-kept-clause-read : goal.returns-in_err-kept-clause-read
 returns-in_err-kept-clause-read g c =
-    let at = c.in_ok-at.ensures in
-    let kept = c.in_err-kept.ensures in
-    read_then g.met.T.Table.stays_then (read_by at.same at.honest at.counts at.stays) (read_by kept.same kept.honest kept.counts kept.stays)
+    read_then g.met.T.Table.stays_then c.in_ok-at.ensures.read c.in_err-kept.ensures.read
 
 pub returns-in_err-kept-clause-room : goal.returns-in_err-kept-clause-room
 returns-in_err-kept-clause-room g c =
@@ -53,7 +51,7 @@ returns-in_err-kept-clause-room g c =
 pub returns-in_err-kept-clause-fault : goal.returns-in_err-kept-clause-fault
 returns-in_err-kept-clause-fault g c =
     passed_on _ c.from_residual-in_err-kept.result _ c.from_residual-in_err-kept.ensures
-    (g.met.T.Table.fails_since _ _ _ _ (g.met.T.Table.stays_goes_on _ _ c.in_ok-at.ensures.stays) c.in_err-kept.ensures.fault)
+    (g.met.T.Table.fails_since _ _ _ _ (g.met.T.Table.stays_goes_on _ _ c.in_ok-at.ensures.read.stays) c.in_err-kept.ensures.fault)
 
 pub returns-in_err-kept-clause-wide : goal.returns-in_err-kept-clause-wide
 returns-in_err-kept-clause-wide g c =
@@ -61,9 +59,7 @@ returns-in_err-kept-clause-wide g c =
 
 pub returns-in_err-is_reached-clause-read : goal.returns-in_err-is_reached-clause-read
 returns-in_err-is_reached-clause-read g c =
-    let at = c.in_ok-at.ensures in
-    let kept = c.in_ok-kept.ensures in
-    read_then g.met.T.Table.stays_then (read_then g.met.T.Table.stays_then (read_by at.same at.honest at.counts at.stays) (read_by kept.same kept.honest kept.counts kept.stays)) c.in_err-is_reached.ensures.read
+    read_then g.met.T.Table.stays_then (read_then g.met.T.Table.stays_then c.in_ok-at.ensures.read c.in_ok-kept.ensures.read) c.in_err-is_reached.ensures.read
 
 pub returns-in_err-is_reached-clause-room : goal.returns-in_err-is_reached-clause-room
 returns-in_err-is_reached-clause-room g c =
@@ -72,7 +68,7 @@ returns-in_err-is_reached-clause-room g c =
 pub returns-in_err-is_reached-clause-fault : goal.returns-in_err-is_reached-clause-fault
 returns-in_err-is_reached-clause-fault g c =
     passed_on _ c.from_residual-in_err-is_reached.result _ c.from_residual-in_err-is_reached.ensures
-    (g.met.T.Table.fails_since _ _ _ _ (g.met.T.Table.stays_goes_on _ _ (g.met.T.Table.stays_then _ _ _ c.in_ok-at.ensures.stays c.in_ok-kept.ensures.stays)) c.in_err-is_reached.ensures.fault)
+    (g.met.T.Table.fails_since _ _ _ _ (g.met.T.Table.stays_goes_on _ _ (g.met.T.Table.stays_then _ _ _ c.in_ok-at.ensures.read.stays c.in_ok-kept.ensures.read.stays)) c.in_err-is_reached.ensures.fault)
 
 pub returns-in_err-is_reached-clause-wide : goal.returns-in_err-is_reached-clause-wide
 returns-in_err-is_reached-clause-wide g c =
@@ -80,9 +76,7 @@ returns-in_err-is_reached-clause-wide g c =
 
 pub returns-in_err-reason-clause-read : goal.returns-in_err-reason-clause-read
 returns-in_err-reason-clause-read g c =
-    let at = c.in_ok-at.ensures in
-    let kept = c.in_ok-kept.ensures in
-    read_then g.met.T.Table.stays_then (read_then g.met.T.Table.stays_then (read_then g.met.T.Table.stays_then (read_by at.same at.honest at.counts at.stays) (read_by kept.same kept.honest kept.counts kept.stays)) c.in_ok-is_reached.ensures.read) c.in_err-reason.ensures.read
+    read_then g.met.T.Table.stays_then (read_then g.met.T.Table.stays_then (read_then g.met.T.Table.stays_then c.in_ok-at.ensures.read c.in_ok-kept.ensures.read) c.in_ok-is_reached.ensures.read) c.in_err-reason.ensures.read
 
 pub returns-in_err-reason-clause-room : goal.returns-in_err-reason-clause-room
 returns-in_err-reason-clause-room g c =
@@ -91,23 +85,21 @@ returns-in_err-reason-clause-room g c =
 pub returns-in_err-reason-clause-fault : goal.returns-in_err-reason-clause-fault
 returns-in_err-reason-clause-fault g c =
     passed_on _ c.from_residual-in_err-reason.result _ c.from_residual-in_err-reason.ensures
-    (of_table_after _ _ _ (λ fault. g.met.T.Table.fails_since _ _ _ fault (g.met.T.Table.stays_goes_on _ _ (g.met.T.Table.stays_then _ _ _ (g.met.T.Table.stays_then _ _ _ c.in_ok-at.ensures.stays c.in_ok-kept.ensures.stays) c.in_ok-is_reached.ensures.read.stays))) c.in_err-reason.ensures.fault)
+    (of_table_after _ _ _ (λ fault. g.met.T.Table.fails_since _ _ _ fault (g.met.T.Table.stays_goes_on _ _ (g.met.T.Table.stays_then _ _ _ (g.met.T.Table.stays_then _ _ _ c.in_ok-at.ensures.read.stays c.in_ok-kept.ensures.read.stays) c.in_ok-is_reached.ensures.read.stays))) c.in_err-reason.ensures.fault)
 
 pub returns-in_err-reason-clause-wide : goal.returns-in_err-reason-clause-wide
 returns-in_err-reason-clause-wide g c =
     λ honest is.
-    let h1 = c.in_ok-at.ensures.honest.0 honest in
-    let h2 = c.in_ok-kept.ensures.honest.0 h1 in
-    let same = c.in_ok-is_reached.ensures.read.same h2 ∙ (c.in_ok-kept.ensures.same h1 ∙ c.in_ok-at.ensures.same honest) in
+    let h1 = c.in_ok-at.ensures.read.honest.0 honest in
+    let h2 = c.in_ok-kept.ensures.read.honest.0 h1 in
+    let same = c.in_ok-is_reached.ensures.read.same h2 ∙ (c.in_ok-kept.ensures.read.same h1 ∙ c.in_ok-at.ensures.read.same honest) in
     let wide = c.in_err-reason.ensures.wide (c.in_ok-is_reached.ensures.read.honest.0 h2) (ap (λ (f : AuditFault). Err f) (not_this c.from_residual-in_err-reason.result _ _ c.from_residual-in_err-reason.ensures is)) in
     let within = subst (λ (t : Stored (List ℕ)). c.args.number < expanded_count t) same wide.0 in
     (c.args.number, c.in_ok-at.at.items, c.in_ok-at.ensures.position honest, within, wide.1)
 
 pub returns-then-not-branch-clause-read : goal.returns-then-not-branch-clause-read
 returns-then-not-branch-clause-read g c =
-    let at = c.in_ok-at.ensures in
-    let kept = c.in_ok-kept.ensures in
-    read_then g.met.T.Table.stays_then (read_then g.met.T.Table.stays_then (read_by at.same at.honest at.counts at.stays) (read_by kept.same kept.honest kept.counts kept.stays)) c.in_ok-is_reached.ensures.read
+    read_then g.met.T.Table.stays_then (read_then g.met.T.Table.stays_then c.in_ok-at.ensures.read c.in_ok-kept.ensures.read) c.in_ok-is_reached.ensures.read
 
 pub returns-then-not-branch-clause-wide : goal.returns-then-not-branch-clause-wide
 returns-then-not-branch-clause-wide g c =
@@ -115,9 +107,7 @@ returns-then-not-branch-clause-wide g c =
 
 pub returns-clause-read : goal.returns-clause-read
 returns-clause-read g c =
-    let at = c.in_ok-at.ensures in
-    let kept = c.in_ok-kept.ensures in
-    read_then g.met.T.Table.stays_then (read_then g.met.T.Table.stays_then (read_then g.met.T.Table.stays_then (read_by at.same at.honest at.counts at.stays) (read_by kept.same kept.honest kept.counts kept.stays)) c.in_ok-is_reached.ensures.read) c.in_ok-reason.ensures.read
+    read_then g.met.T.Table.stays_then (read_then g.met.T.Table.stays_then (read_then g.met.T.Table.stays_then c.in_ok-at.ensures.read c.in_ok-kept.ensures.read) c.in_ok-is_reached.ensures.read) c.in_ok-reason.ensures.read
 
 pub returns-clause-wide : goal.returns-clause-wide
 returns-clause-wide g c =

@@ -5,7 +5,7 @@ use Rattle.retrograde.specs.Stored.{Stored, IsTable}
 use Rattle.retrograde.proofs.Finished.{element}
 use Rattle.audit.specs.aid.Conditions.{distance_at}
 use Rattle.audit.proofs.FloorLemmas.{floors_step, distance_next}
-use Rattle.table.proofs.Reading.{read_then}
+use Rattle.table.proofs.Frames.{read_then}
 use Rattle.audit.proofs.order.floors.Given as Given
 use Rattle.audit.proofs.order.floors.Goals as goal
 

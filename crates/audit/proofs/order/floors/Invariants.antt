@@ -1,7 +1,7 @@
 use Rattle.std.proofs.Common.{◌≡◌, length}
 use Rattle.retrograde.specs.Stored.{IsTable}
 use Rattle.audit.specs.aid.Conditions.{AreFloors, distance_before}
-use Rattle.table.specs.aid.Reading.{IsRead}
+use Rattle.table.specs.Frames.{IsRead}
 use Rattle.audit.proofs.order.floors.Given as goal
 
 abbrev pub invariant-loop-place : goal.invariant-loop-place

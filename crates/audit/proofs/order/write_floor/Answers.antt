@@ -6,16 +6,16 @@ use Rattle.retrograde.specs.declared.records.Record.{Record}
 use Rattle.retrograde.specs.Stored.{Stored}
 use Rattle.audit.specs.aid.Conditions.{distance_in}
 use Rattle.audit.proofs.FloorLemmas.{in_range}
-use Rattle.table.proofs.Reading.{read_by, read_then}
+use Rattle.table.proofs.Frames.{read_then}
 use Rattle.audit.proofs.order.write_floor.Goals as goal
 
 pub returns-clause-written : goal.returns-clause-written
 returns-clause-written g c = λ honest table i at.
-    let h = c.in_ok-number.ensures.honest.0 honest in
+    let h = c.in_ok-number.ensures.read.honest.0 honest in
     let stored = g.T.Table.stored c.args.table.now in
     let same = same_Some c.in_ok-number.number i (sym (c.in_ok-number.ensures.number honest) ∙ at) in
     let record_is : slice_get stored.records c.in_ok-number.number ≡ Some c.in_ok-record.field-0 =
-    subst (λ (t : Stored (List ℕ)). slice_get t.records c.in_ok-number.number ≡ Some c.in_ok-record.field-0) (c.in_ok-number.ensures.same honest) (c.in_ok-record.ensures.record h) in
+    subst (λ (t : Stored (List ℕ)). slice_get t.records c.in_ok-number.number ≡ Some c.in_ok-record.field-0) (c.in_ok-number.ensures.read.same honest) (c.in_ok-record.ensures.record h) in
     let there : slice_get stored.records i ≡ Some c.in_ok-record.field-0 = ap (λ (m : ℕ). slice_get stored.records m) (sym same) ∙ record_is in
     let count = ap (λ (k : Counts). k.known) (g.met.T.Table.counts_are c.args.table.now honest) in
     let within : i < length stored.positions = in_range stored table c.args.place i at in (
@@ -42,9 +42,7 @@ returns-in_err-number-clause-fault g c =
 
 pub returns-in_err-record-clause-read : goal.returns-in_err-record-clause-read
 returns-in_err-record-clause-read g c =
-    let number = c.in_ok-number.ensures in
-    let kept = c.in_err-record.ensures in
-    read_then g.met.T.Table.stays_then (read_by number.same number.honest number.counts number.stays) (read_by kept.same kept.honest kept.counts kept.stays)
+    read_then g.met.T.Table.stays_then c.in_ok-number.ensures.read c.in_err-record.ensures.read
 
 pub returns-in_err-record-clause-room : goal.returns-in_err-record-clause-room
 returns-in_err-record-clause-room g c =
@@ -53,10 +51,8 @@ returns-in_err-record-clause-room g c =
 pub returns-in_err-record-clause-fault : goal.returns-in_err-record-clause-fault
 returns-in_err-record-clause-fault g c =
     passed_on _ c.from_residual-in_err-record.result _ c.from_residual-in_err-record.ensures
-    (g.met.T.Table.fails_since _ _ _ _ (g.met.T.Table.stays_goes_on _ _ c.in_ok-number.ensures.stays) c.in_err-record.ensures.fault)
+    (g.met.T.Table.fails_since _ _ _ _ (g.met.T.Table.stays_goes_on _ _ c.in_ok-number.ensures.read.stays) c.in_err-record.ensures.fault)
 
 pub returns-clause-read : goal.returns-clause-read
 returns-clause-read g c =
-    let number = c.in_ok-number.ensures in
-    let kept = c.in_ok-record.ensures in
-    read_then g.met.T.Table.stays_then (read_by number.same number.honest number.counts number.stays) (read_by kept.same kept.honest kept.counts kept.stays)
+    read_then g.met.T.Table.stays_then c.in_ok-number.ensures.read c.in_ok-record.ensures.read

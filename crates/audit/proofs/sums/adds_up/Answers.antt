@@ -10,7 +10,7 @@ use Rattle.audit.specs.aid.Conditions.{IsLowest, IsFloor, own_condition, success
 use Rattle.audit.proofs.FloorLemmas.{floor_of}
 use Rattle.audit.proofs.AnswerLemmas.{own_more}
 use Rattle.audit.proofs.SumLemmas.{sum_more, sums_right}
-use Rattle.table.proofs.Reading.{read_then}
+use Rattle.table.proofs.Frames.{read_then}
 use Rattle.audit.proofs.sums.adds_up.Goals as goal
 
 pub returns-clause-right : goal.returns-clause-right

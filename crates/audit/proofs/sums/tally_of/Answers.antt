@@ -1,7 +1,5 @@
-use Rattle.audit.specs.declared.fault.AuditFault.{AuditFault}
 use Rattle.audit.proofs.Passing.{passed_on, not_this, ok_differs, table_narrow, of_table_after}
-use Rattle.std.proofs.Common.{ap, Err}
-use Rattle.table.proofs.Reading.{read_by, read_then}
+use Rattle.table.proofs.Frames.{read_then}
 use Rattle.audit.proofs.sums.tally_of.Goals as goal
 
 pub returns-in_err-edges-clause-room : goal.returns-in_err-edges-clause-room
@@ -19,8 +17,7 @@ returns-in_err-edges-clause-wide g c =
 
 pub returns-in_err-moves-clause-read : goal.returns-in_err-moves-clause-read
 returns-in_err-moves-clause-read g c =
-    let moves = c.in_err-moves.ensures in
-    read_then g.met.T.Table.stays_then c.in_ok-edges.ensures.read (read_by moves.same moves.honest moves.counts moves.stays)
+    read_then g.met.T.Table.stays_then c.in_ok-edges.ensures.read c.in_err-moves.ensures.read
 
 pub returns-in_err-moves-clause-room : goal.returns-in_err-moves-clause-room
 returns-in_err-moves-clause-room g c =
@@ -37,8 +34,7 @@ returns-in_err-moves-clause-wide g c =
 
 pub returns-in_err-own_failing-clause-read : goal.returns-in_err-own_failing-clause-read
 returns-in_err-own_failing-clause-read g c =
-    let moves = c.in_ok-moves.ensures in
-    read_then g.met.T.Table.stays_then (read_then g.met.T.Table.stays_then c.in_ok-edges.ensures.read (read_by moves.same moves.honest moves.counts moves.stays)) c.in_err-own_failing.ensures.read
+    read_then g.met.T.Table.stays_then (read_then g.met.T.Table.stays_then c.in_ok-edges.ensures.read c.in_ok-moves.ensures.read) c.in_err-own_failing.ensures.read
 
 pub returns-in_err-own_failing-clause-room : goal.returns-in_err-own_failing-clause-room
 returns-in_err-own_failing-clause-room g c =
@@ -47,12 +43,11 @@ returns-in_err-own_failing-clause-room g c =
 pub returns-in_err-own_failing-clause-fault : goal.returns-in_err-own_failing-clause-fault
 returns-in_err-own_failing-clause-fault g c =
     passed_on _ c.from_residual-in_err-own_failing.result _ c.from_residual-in_err-own_failing.ensures
-    (of_table_after _ _ _ (λ fault. g.met.T.Table.fails_since _ _ _ fault (g.met.T.Table.stays_goes_on _ _ (g.met.T.Table.stays_then _ _ _ c.in_ok-edges.ensures.read.stays c.in_ok-moves.ensures.stays))) c.in_err-own_failing.ensures.fault)
+    (of_table_after _ _ _ (λ fault. g.met.T.Table.fails_since _ _ _ fault (g.met.T.Table.stays_goes_on _ _ (g.met.T.Table.stays_then _ _ _ c.in_ok-edges.ensures.read.stays c.in_ok-moves.ensures.read.stays))) c.in_err-own_failing.ensures.fault)
 
 pub returns-then-is_some-clause-read : goal.returns-then-is_some-clause-read
 returns-then-is_some-clause-read g c =
-    let moves = c.in_ok-moves.ensures in
-    read_then g.met.T.Table.stays_then (read_then g.met.T.Table.stays_then c.in_ok-edges.ensures.read (read_by moves.same moves.honest moves.counts moves.stays)) c.in_ok-own_failing.ensures.read
+    read_then g.met.T.Table.stays_then (read_then g.met.T.Table.stays_then c.in_ok-edges.ensures.read c.in_ok-moves.ensures.read) c.in_ok-own_failing.ensures.read
 
 pub returns-then-is_some-clause-wide : goal.returns-then-is_some-clause-wide
 returns-then-is_some-clause-wide g c =
@@ -60,8 +55,7 @@ returns-then-is_some-clause-wide g c =
 
 pub returns-clause-read : goal.returns-clause-read
 returns-clause-read g c =
-    let moves = c.in_ok-moves.ensures in
-    read_then g.met.T.Table.stays_then (read_then g.met.T.Table.stays_then c.in_ok-edges.ensures.read (read_by moves.same moves.honest moves.counts moves.stays)) c.in_ok-own_failing.ensures.read
+    read_then g.met.T.Table.stays_then (read_then g.met.T.Table.stays_then c.in_ok-edges.ensures.read c.in_ok-moves.ensures.read) c.in_ok-own_failing.ensures.read
 
 pub returns-clause-wide : goal.returns-clause-wide
 returns-clause-wide g c =

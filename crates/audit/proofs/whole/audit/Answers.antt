@@ -10,7 +10,7 @@ use Rattle.audit.specs.Answers.{IsAnswer}
 use Rattle.audit.specs.aid.Conditions.{AreFloors}
 use Rattle.audit.specs.aid.Edges.{AreArrivals}
 use Rattle.audit.proofs.AnswerLemmas.{right_sound, right_so}
-use Rattle.table.proofs.Reading.{read_then}
+use Rattle.table.proofs.Frames.{read_then}
 use Rattle.audit.proofs.whole.audit.Goals as goal
 
 is_ok : (b : Bool) → b ≡ true → ◌≡◌ {A = Result Bool AuditFault} (Ok b) (Ok true)
@@ -114,21 +114,9 @@ pub returns-in_err-floors-clause-wide : goal.returns-in_err-floors-clause-wide
 returns-in_err-floors-clause-wide g c =
     λ honest is. absurd (c.in_err-floors.ensures.narrow (not_this c.from_residual.result _ _ c.from_residual.ensures is))
 
-pub returns-in_err-adds_up-clause-same : goal.returns-in_err-adds_up-clause-same
-returns-in_err-adds_up-clause-same g c =
-    (read_then g.met.T.Table.stays_then c.in_ok-floors.ensures.read c.in_err-adds_up.ensures.read).same
-
-pub returns-in_err-adds_up-clause-honest : goal.returns-in_err-adds_up-clause-honest
-returns-in_err-adds_up-clause-honest g c =
-    (read_then g.met.T.Table.stays_then c.in_ok-floors.ensures.read c.in_err-adds_up.ensures.read).honest
-
-pub returns-in_err-adds_up-clause-counts : goal.returns-in_err-adds_up-clause-counts
-returns-in_err-adds_up-clause-counts g c =
-    (read_then g.met.T.Table.stays_then c.in_ok-floors.ensures.read c.in_err-adds_up.ensures.read).counts
-
-pub returns-in_err-adds_up-clause-stays : goal.returns-in_err-adds_up-clause-stays
-returns-in_err-adds_up-clause-stays g c =
-    (read_then g.met.T.Table.stays_then c.in_ok-floors.ensures.read c.in_err-adds_up.ensures.read).stays
+pub returns-in_err-adds_up-clause-read : goal.returns-in_err-adds_up-clause-read
+returns-in_err-adds_up-clause-read g c =
+    read_then g.met.T.Table.stays_then c.in_ok-floors.ensures.read c.in_err-adds_up.ensures.read
 
 pub returns-in_err-adds_up-clause-room : goal.returns-in_err-adds_up-clause-room
 returns-in_err-adds_up-clause-room g c =
@@ -145,41 +133,17 @@ returns-in_err-adds_up-clause-wide g c =
     subst (λ (t : Stored (List ℕ)). HasWide (g.M.GameGraph.is_wide c.args.source.now) t) (c.in_ok-floors.ensures.read.same honest)
     (c.in_err-adds_up.ensures.wide (c.in_ok-floors.ensures.read.honest.0 honest) (ap (λ (f : AuditFault). Err f) (not_this c.from_residual-in_err-adds_up.result _ _ c.from_residual-in_err-adds_up.ensures is)))
 
-pub returns-then-branch-clause-same : goal.returns-then-branch-clause-same
-returns-then-branch-clause-same g c =
-    (read_then g.met.T.Table.stays_then c.in_ok-floors.ensures.read c.in_ok-adds_up.ensures.read).same
-
-pub returns-then-branch-clause-honest : goal.returns-then-branch-clause-honest
-returns-then-branch-clause-honest g c =
-    (read_then g.met.T.Table.stays_then c.in_ok-floors.ensures.read c.in_ok-adds_up.ensures.read).honest
-
-pub returns-then-branch-clause-counts : goal.returns-then-branch-clause-counts
-returns-then-branch-clause-counts g c =
-    (read_then g.met.T.Table.stays_then c.in_ok-floors.ensures.read c.in_ok-adds_up.ensures.read).counts
-
-pub returns-then-branch-clause-stays : goal.returns-then-branch-clause-stays
-returns-then-branch-clause-stays g c =
-    (read_then g.met.T.Table.stays_then c.in_ok-floors.ensures.read c.in_ok-adds_up.ensures.read).stays
+pub returns-then-branch-clause-read : goal.returns-then-branch-clause-read
+returns-then-branch-clause-read g c =
+    read_then g.met.T.Table.stays_then c.in_ok-floors.ensures.read c.in_ok-adds_up.ensures.read
 
 pub returns-then-branch-clause-wide : goal.returns-then-branch-clause-wide
 returns-then-branch-clause-wide g c =
     λ honest is. absurd (ok_differs _ _ is)
 
-pub returns-in_err-arrivals-clause-same : goal.returns-in_err-arrivals-clause-same
-returns-in_err-arrivals-clause-same g c =
-    (read_then g.met.T.Table.stays_then (read_then g.met.T.Table.stays_then c.in_ok-floors.ensures.read c.in_ok-adds_up.ensures.read) c.in_err-arrivals.ensures.read).same
-
-pub returns-in_err-arrivals-clause-honest : goal.returns-in_err-arrivals-clause-honest
-returns-in_err-arrivals-clause-honest g c =
-    (read_then g.met.T.Table.stays_then (read_then g.met.T.Table.stays_then c.in_ok-floors.ensures.read c.in_ok-adds_up.ensures.read) c.in_err-arrivals.ensures.read).honest
-
-pub returns-in_err-arrivals-clause-counts : goal.returns-in_err-arrivals-clause-counts
-returns-in_err-arrivals-clause-counts g c =
-    (read_then g.met.T.Table.stays_then (read_then g.met.T.Table.stays_then c.in_ok-floors.ensures.read c.in_ok-adds_up.ensures.read) c.in_err-arrivals.ensures.read).counts
-
-pub returns-in_err-arrivals-clause-stays : goal.returns-in_err-arrivals-clause-stays
-returns-in_err-arrivals-clause-stays g c =
-    (read_then g.met.T.Table.stays_then (read_then g.met.T.Table.stays_then c.in_ok-floors.ensures.read c.in_ok-adds_up.ensures.read) c.in_err-arrivals.ensures.read).stays
+pub returns-in_err-arrivals-clause-read : goal.returns-in_err-arrivals-clause-read
+returns-in_err-arrivals-clause-read g c =
+    read_then g.met.T.Table.stays_then (read_then g.met.T.Table.stays_then c.in_ok-floors.ensures.read c.in_ok-adds_up.ensures.read) c.in_err-arrivals.ensures.read
 
 pub returns-in_err-arrivals-clause-room : goal.returns-in_err-arrivals-clause-room
 returns-in_err-arrivals-clause-room g c =
@@ -197,18 +161,6 @@ returns-in_err-arrivals-clause-wide g c =
     subst (λ (t : Stored (List ℕ)). HasWide (g.M.GameGraph.is_wide c.args.source.now) t) (c.in_ok-adds_up.ensures.read.same h1 ∙ c.in_ok-floors.ensures.read.same honest)
     (c.in_err-arrivals.ensures.wide (c.in_ok-adds_up.ensures.read.honest.0 h1) (ap (λ (f : AuditFault). Err f) (not_this c.from_residual-in_err-arrivals.result _ _ c.from_residual-in_err-arrivals.ensures is)))
 
-pub returns-clause-same : goal.returns-clause-same
-returns-clause-same g c =
-    (read_then g.met.T.Table.stays_then (read_then g.met.T.Table.stays_then (read_then g.met.T.Table.stays_then c.in_ok-floors.ensures.read c.in_ok-adds_up.ensures.read) c.in_ok-arrivals.ensures.read) c.first_wrong.ensures.read).same
-
-pub returns-clause-honest : goal.returns-clause-honest
-returns-clause-honest g c =
-    (read_then g.met.T.Table.stays_then (read_then g.met.T.Table.stays_then (read_then g.met.T.Table.stays_then c.in_ok-floors.ensures.read c.in_ok-adds_up.ensures.read) c.in_ok-arrivals.ensures.read) c.first_wrong.ensures.read).honest
-
-pub returns-clause-counts : goal.returns-clause-counts
-returns-clause-counts g c =
-    (read_then g.met.T.Table.stays_then (read_then g.met.T.Table.stays_then (read_then g.met.T.Table.stays_then c.in_ok-floors.ensures.read c.in_ok-adds_up.ensures.read) c.in_ok-arrivals.ensures.read) c.first_wrong.ensures.read).counts
-
-pub returns-clause-stays : goal.returns-clause-stays
-returns-clause-stays g c =
-    (read_then g.met.T.Table.stays_then (read_then g.met.T.Table.stays_then (read_then g.met.T.Table.stays_then c.in_ok-floors.ensures.read c.in_ok-adds_up.ensures.read) c.in_ok-arrivals.ensures.read) c.first_wrong.ensures.read).stays
+pub returns-clause-read : goal.returns-clause-read
+returns-clause-read g c =
+    read_then g.met.T.Table.stays_then (read_then g.met.T.Table.stays_then (read_then g.met.T.Table.stays_then c.in_ok-floors.ensures.read c.in_ok-adds_up.ensures.read) c.in_ok-arrivals.ensures.read) c.first_wrong.ensures.read

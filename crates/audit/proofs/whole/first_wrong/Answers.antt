@@ -12,7 +12,7 @@ use Rattle.audit.specs.aid.Edges.{IsArriving}
 use Rattle.audit.proofs.ArrivalLemmas.{arriving_at}
 use Rattle.audit.proofs.FloorLemmas.{floor_of}
 use Rattle.audit.proofs.AnswerLemmas.{one_more, all_right, this_wrong}
-use Rattle.table.proofs.Reading.{read_then}
+use Rattle.table.proofs.Frames.{read_then}
 use Rattle.audit.proofs.whole.first_wrong.Goals as goal
 
 pub loop-number-preserved : goal.loop-number-preserved

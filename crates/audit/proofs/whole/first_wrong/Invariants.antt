@@ -3,7 +3,7 @@ use Rattle.retrograde.specs.Stored.{IsTable, expanded_count}
 use Rattle.audit.specs.aid.Conditions.{AreFloors}
 use Rattle.audit.specs.aid.Edges.{AreArrivals}
 use Rattle.audit.proofs.AnswerLemmas.{AreSound}
-use Rattle.table.specs.aid.Reading.{IsRead}
+use Rattle.table.specs.Frames.{IsRead}
 use Rattle.audit.proofs.whole.first_wrong.Given as goal
 
 abbrev pub invariant-loop-number : goal.invariant-loop-number

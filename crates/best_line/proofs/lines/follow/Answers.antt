@@ -10,7 +10,7 @@ use Rattle.best_line.specs.declared.fault.LineFault.{LineFault}
 use Rattle.best_line.proofs.Passing.{passed_on, memory_settled, of_table_after}
 use Rattle.best_line.proofs.LineLemmas.{line_value, line_push, line_done}
 use Rattle.best_line.proofs.StepLemmas.{step_cause, step_stops}
-use Rattle.table.proofs.Reading.{unread, read_then}
+use Rattle.table.proofs.Frames.{unread, read_then}
 use Rattle.best_line.proofs.lines.follow.Goals as goal
 
 pub returns-in_err-at-clause-cause : goal.returns-in_err-at-clause-cause

@@ -1,7 +1,7 @@
 use Rattle.std.proofs.Common.{◌≡◌, ◌-◌, ◌<◌, Some, slice_get}
 use Rattle.retrograde.specs.Stored.{IsTable, view_of}
 use Rattle.best_line.specs.Lines.{IsLineTo}
-use Rattle.table.specs.aid.Reading.{IsRead}
+use Rattle.table.specs.Frames.{IsRead}
 use Rattle.best_line.proofs.lines.follow.Given as goal
 
 abbrev pub invariant-loop-step : goal.invariant-loop-step

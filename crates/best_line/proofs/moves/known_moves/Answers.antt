@@ -1,9 +1,10 @@
-use Rattle.std.proofs.Common.{◌∙◌, ap, subst, sym, refl, ℕ, List, Err}
+use Rattle.std.proofs.Common.{ap, subst, sym, refl, ℕ, List, Err}
 use Rattle.position_pack.specs.Packings.{IsPacked}
 use Rattle.retrograde.specs.Stored.{Stored, IsTable, view_of}
 use Rattle.legal_moves.specs.Compiled.{compiled_game, packing_kind}
 use Rattle.legal_moves.specs.declared.fault.MoveFault.{MoveFault}
 use Rattle.legal_moves.proofs.SourceLemmas.{at_by_packed, packed_by_at}
+use Rattle.table.proofs.Frames.{read_then}
 use Rattle.best_line.proofs.Passing.{passed_on, not_this, ok_differs}
 use Rattle.best_line.specs.aid.Found.{AreToldMoves}
 use Rattle.best_line.proofs.FaultLemmas.{inconsistent_is_narrow, of_table_after, search_is_consistent, search_is_wide, search_of_none, table_is_none}
@@ -32,8 +33,8 @@ returns-clause-moves g c = λ honest table.
     let x = c.in_ok-packed.packed.items in
     let form = c.packing.ensures in
     let here = at_by_packed (packing_kind v) (compiled_game v) c.packing.result.now x c.in-Some.at form (subst (IsPacked c.packing.result.now c.in-Some.at) c.deref.ensures.0 c.in-Some.ensures) in
-    let h = c.in_ok-packed.ensures.honest.0 honest in
-    let same = c.in_ok-packed.ensures.same honest in
+    let h = c.in_ok-packed.ensures.read.honest.0 honest in
+    let same = c.in_ok-packed.ensures.read.same honest in
     let table' = subst (λ (t : Stored (List ℕ)). IsTable t) (sym same) table in
     let kind = packing_kind v in
     let game = compiled_game v in
@@ -107,7 +108,7 @@ returns-in_err-moves-clause-room g c = passed_on _ c.from_residual-in_err-moves.
 pub returns-in_err-moves-clause-fault : goal.returns-in_err-moves-clause-fault
 returns-in_err-moves-clause-fault g c =
     passed_on _ c.from_residual-in_err-moves.result _ c.from_residual-in_err-moves.ensures
-    (of_table_after _ _ _ (λ f fails. g.met.T.Table.fails_since _ _ _ _ (g.met.T.Table.stays_goes_on _ _ c.in_ok-packed.ensures.stays) fails) c.in_err-moves.ensures.fault)
+    (of_table_after _ _ _ (λ f fails. g.met.T.Table.fails_since _ _ _ _ (g.met.T.Table.stays_goes_on _ _ c.in_ok-packed.ensures.read.stays) fails) c.in_err-moves.ensures.fault)
 
 pub returns-clause-none : goal.returns-clause-none
 returns-clause-none g c = λ honest is. absurd (ok_differs _ _ is)
@@ -115,26 +116,10 @@ returns-clause-none g c = λ honest is. absurd (ok_differs _ _ is)
 pub returns-clause-wide : goal.returns-clause-wide
 returns-clause-wide g c = λ honest is. absurd (ok_differs _ _ is)
 
-pub returns-in_err-moves-clause-same : goal.returns-in_err-moves-clause-same
-returns-in_err-moves-clause-same g c = λ h. c.in_err-moves.ensures.read.same (c.in_ok-packed.ensures.honest.0 h) ∙ c.in_ok-packed.ensures.same h
+pub returns-in_err-moves-clause-read : goal.returns-in_err-moves-clause-read
+returns-in_err-moves-clause-read g c =
+    read_then g.met.T.Table.stays_then c.in_ok-packed.ensures.read c.in_err-moves.ensures.read
 
-pub returns-in_err-moves-clause-honest : goal.returns-in_err-moves-clause-honest
-returns-in_err-moves-clause-honest g c = (λ h. c.in_err-moves.ensures.read.honest.0 (c.in_ok-packed.ensures.honest.0 h), λ h. c.in_ok-packed.ensures.honest.1 (c.in_err-moves.ensures.read.honest.1 h))
-
-pub returns-in_err-moves-clause-counts : goal.returns-in_err-moves-clause-counts
-returns-in_err-moves-clause-counts g c = c.in_err-moves.ensures.read.counts ∙ c.in_ok-packed.ensures.counts
-
-pub returns-in_err-moves-clause-stays : goal.returns-in_err-moves-clause-stays
-returns-in_err-moves-clause-stays g c = g.met.T.Table.stays_then _ _ _ c.in_ok-packed.ensures.stays c.in_err-moves.ensures.read.stays
-
-pub returns-clause-same : goal.returns-clause-same
-returns-clause-same g c = λ h. c.in_ok-moves.ensures.read.same (c.in_ok-packed.ensures.honest.0 h) ∙ c.in_ok-packed.ensures.same h
-
-pub returns-clause-honest : goal.returns-clause-honest
-returns-clause-honest g c = (λ h. c.in_ok-moves.ensures.read.honest.0 (c.in_ok-packed.ensures.honest.0 h), λ h. c.in_ok-packed.ensures.honest.1 (c.in_ok-moves.ensures.read.honest.1 h))
-
-pub returns-clause-counts : goal.returns-clause-counts
-returns-clause-counts g c = c.in_ok-moves.ensures.read.counts ∙ c.in_ok-packed.ensures.counts
-
-pub returns-clause-stays : goal.returns-clause-stays
-returns-clause-stays g c = g.met.T.Table.stays_then _ _ _ c.in_ok-packed.ensures.stays c.in_ok-moves.ensures.read.stays
+pub returns-clause-read : goal.returns-clause-read
+returns-clause-read g c =
+    read_then g.met.T.Table.stays_then c.in_ok-packed.ensures.read c.in_ok-moves.ensures.read

@@ -8,7 +8,7 @@ use Rattle.best_line.proofs.Passing.{passed_on, nothing_at}
 use Rattle.best_line.specs.aid.Found.{IsToldMove}
 use Rattle.best_line.specs.declared.known.KnownMove.{KnownMove}
 use Rattle.best_line.proofs.FaultLemmas.{memory_is_none, of_table_after}
-use Rattle.table.proofs.Reading.{unread, read_then}
+use Rattle.table.proofs.Frames.{unread, read_then}
 use Rattle.best_line.proofs.moves.told_moves.Goals as goal
 
 pub loop-k-init : goal.loop-k-init

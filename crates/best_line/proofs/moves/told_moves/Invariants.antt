@@ -4,7 +4,7 @@ use Rattle.retrograde.specs.Stored.{IsTable, view_of}
 use Rattle.legal_moves.specs.Compiled.{compiled_game, packing_kind}
 use Rattle.best_line.specs.aid.Found.{IsToldMove}
 use Rattle.best_line.specs.declared.known.KnownMove.{KnownMove}
-use Rattle.table.specs.aid.Reading.{IsRead}
+use Rattle.table.specs.Frames.{IsRead}
 use Rattle.best_line.proofs.moves.told_moves.Given as goal
 
 abbrev pub invariant-loop-k : goal.invariant-loop-k

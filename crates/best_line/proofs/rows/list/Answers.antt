@@ -1,19 +1,17 @@
-use Rattle.std.proofs.Common.{◌≡◌, ◌∙◌, sym, ap, subst, ℕ, ◌+◌, ◌-◌, List, refl, length, min, arith}
+use Rattle.std.proofs.Common.{◌≡◌, ◌∙◌, sym, ap, subst, ℕ, ◌+◌, ◌-◌, List, length, min, arith}
 use Rattle.std.proofs.lemmas.List.{length_push}
 use Rattle.retrograde.specs.declared.records.Counts.{Counts}
 use Rattle.retrograde.specs.Stored.{Stored, IsTable, view_of}
 use Rattle.best_line.specs.declared.answers.Row.{Row}
 use Rattle.best_line.specs.Values.{IsValue}
+use Rattle.table.proofs.Frames.{unread, read_then}
 use Rattle.best_line.proofs.Passing.{passed_on, memory_needs_none, nothing_at, so_many, below_known}
 use Rattle.best_line.proofs.ListLemmas.{each_push}
 use Rattle.best_line.proofs.rows.list.Goals as goal
 
 pub loop-number-preserved : goal.loop-number-preserved
 loop-number-preserved g c = record {
-  counts = c.in_ok-value.ensures.counts ∙ c.loop-number.invariant.counts;
-  stays = g.met.T.Table.stays_then _ _ _ c.loop-number.invariant.stays c.in_ok-value.ensures.stays;
-  honest = (λ h. c.in_ok-value.ensures.honest.0 (c.loop-number.invariant.honest.0 h), λ h. c.loop-number.invariant.honest.1 (c.in_ok-value.ensures.honest.1 h));
-  same = λ h. c.in_ok-value.ensures.same (c.loop-number.invariant.honest.0 h) ∙ c.loop-number.invariant.same h;
+  read = read_then g.met.T.Table.stays_then c.loop-number.invariant.read c.in_ok-value.ensures.read;
   lengths =
       let one : length c.push.new.self.items ≡ length c.loop-number.rows.items + 1 = ap (λ (rows : List Row). length rows) c.in_ok-push.ensures.items ∙ length_push c.loop-number.rows.items _ in
       omega (arith, c.loop-number.invariant.lengths);
@@ -21,8 +19,8 @@ loop-number-preserved g c = record {
       each_push (λ (k : ℕ) (row : Row). row.number ≡ c.args.from + k) c.loop-number.rows.items c.push.new.self.items
       (record { number = c.loop-number.number; value = c.in_ok-value.value }) c.in_ok-push.ensures.items c.loop-number.invariant.numbers (sym c.loop-number.invariant.lengths);
   values = λ honest table.
-      let h = c.loop-number.invariant.honest.0 honest in
-      let same = c.loop-number.invariant.same honest in
+      let h = c.loop-number.invariant.read.honest.0 honest in
+      let same = c.loop-number.invariant.read.same honest in
       let table' = subst (λ (t : Stored (List ℕ)). IsTable t) (sym same) table in
       let now = subst (λ (t : Stored (List ℕ)). IsValue (view_of t) c.loop-number.number c.in_ok-value.value) same (c.in_ok-value.ensures.value h table') in
       each_push (λ (k : ℕ) (row : Row). IsValue (view_of (g.T.Table.stored c.args.table.now)) row.number row.value) c.loop-number.rows.items c.push.new.self.items
@@ -32,30 +30,11 @@ loop-number-preserved g c = record {
 pub loop-number-init : goal.loop-number-init
 loop-number-init g c =
     record {
-      counts = refl;
-      stays = g.met.T.Table.stays_here _;
-      honest = (λ h. h, λ h. h);
-      same = λ h. refl;
+      read = unread g.met.T.Table.stays_here _;
       lengths = let none = ap (λ (rows : List Row). length rows) c.new-rows.ensures.items in omega arith;
       numbers = λ k row at. absurd (nothing_at c.new-rows.result.items c.new-rows.ensures.items k row at);
       values = λ h table k row at. absurd (nothing_at c.new-rows.result.items c.new-rows.ensures.items k row at);
     }
-
-pub returns-in_err-value-clause-same : goal.returns-in_err-value-clause-same
-returns-in_err-value-clause-same g c =
-    λ h. c.in_err-value.ensures.same (c.loop-number.invariant.honest.0 h) ∙ c.loop-number.invariant.same h
-
-pub returns-in_err-value-clause-honest : goal.returns-in_err-value-clause-honest
-returns-in_err-value-clause-honest g c =
-    (λ h. c.in_err-value.ensures.honest.0 (c.loop-number.invariant.honest.0 h), λ h. c.loop-number.invariant.honest.1 (c.in_err-value.ensures.honest.1 h))
-
-pub returns-in_err-value-clause-counts : goal.returns-in_err-value-clause-counts
-returns-in_err-value-clause-counts g c =
-    c.in_err-value.ensures.counts ∙ c.loop-number.invariant.counts
-
-pub returns-in_err-value-clause-stays : goal.returns-in_err-value-clause-stays
-returns-in_err-value-clause-stays g c =
-    g.met.T.Table.stays_then _ _ _ c.loop-number.invariant.stays c.in_err-value.ensures.stays
 
 pub returns-in_err-value-clause-room : goal.returns-in_err-value-clause-room
 returns-in_err-value-clause-room g c =
@@ -64,23 +43,7 @@ returns-in_err-value-clause-room g c =
 pub returns-in_err-value-clause-fault : goal.returns-in_err-value-clause-fault
 returns-in_err-value-clause-fault g c =
     passed_on _ c.from_residual.result _ c.from_residual.ensures
-    (g.met.T.Table.fails_since _ _ _ _ (g.met.T.Table.stays_goes_on _ _ c.loop-number.invariant.stays) c.in_err-value.ensures.fault)
-
-pub returns-in_err-push-clause-same : goal.returns-in_err-push-clause-same
-returns-in_err-push-clause-same g c =
-    λ h. c.in_ok-value.ensures.same (c.loop-number.invariant.honest.0 h) ∙ c.loop-number.invariant.same h
-
-pub returns-in_err-push-clause-honest : goal.returns-in_err-push-clause-honest
-returns-in_err-push-clause-honest g c =
-    (λ h. c.in_ok-value.ensures.honest.0 (c.loop-number.invariant.honest.0 h), λ h. c.loop-number.invariant.honest.1 (c.in_ok-value.ensures.honest.1 h))
-
-pub returns-in_err-push-clause-counts : goal.returns-in_err-push-clause-counts
-returns-in_err-push-clause-counts g c =
-    c.in_ok-value.ensures.counts ∙ c.loop-number.invariant.counts
-
-pub returns-in_err-push-clause-stays : goal.returns-in_err-push-clause-stays
-returns-in_err-push-clause-stays g c =
-    g.met.T.Table.stays_then _ _ _ c.loop-number.invariant.stays c.in_ok-value.ensures.stays
+    (g.met.T.Table.fails_since _ _ _ _ (g.met.T.Table.stays_goes_on _ _ c.loop-number.invariant.read.stays) c.in_err-value.ensures.fault)
 
 pub returns-in_err-push-clause-room : goal.returns-in_err-push-clause-room
 returns-in_err-push-clause-room g c =
@@ -88,7 +51,7 @@ returns-in_err-push-clause-room g c =
 
 pub returns-in_err-push-clause-fault : goal.returns-in_err-push-clause-fault
 returns-in_err-push-clause-fault g c =
-    passed_on _ c.from_residual-in_err-push.result _ c.from_residual-in_err-push.ensures (g.met.T.Table.memory_fails _ _ (g.met.T.Table.stays_goes_on _ _ (g.met.T.Table.stays_then _ _ _ c.loop-number.invariant.stays c.in_ok-value.ensures.stays)))
+    passed_on _ c.from_residual-in_err-push.result _ c.from_residual-in_err-push.ensures (g.met.T.Table.memory_fails _ _ (g.met.T.Table.stays_goes_on _ _ (g.met.T.Table.stays_then _ _ _ c.loop-number.invariant.read.stays c.in_ok-value.ensures.read.stays)))
 
 pub returns-clause-rows : goal.returns-clause-rows
 returns-clause-rows g c =
@@ -109,4 +72,12 @@ returns-clause-lengths g c =
 pub value-requires : goal.value-requires
 value-requires g c =
     below_known c.args.from c.min.result c.loop-number.number c.args.count c.counts.result.known _ _ c.loop-number-test.true c.min.ensures
-    (ap (λ (k : Counts). k.known) c.counts.ensures) c.requires.from (ap (λ (k : Counts). k.known) c.loop-number.invariant.counts)
+    (ap (λ (k : Counts). k.known) c.counts.ensures) c.requires.from (ap (λ (k : Counts). k.known) c.loop-number.invariant.read.counts)
+
+pub returns-in_err-value-clause-read : goal.returns-in_err-value-clause-read
+returns-in_err-value-clause-read g c =
+    read_then g.met.T.Table.stays_then c.loop-number.invariant.read c.in_err-value.ensures.read
+
+pub returns-in_err-push-clause-read : goal.returns-in_err-push-clause-read
+returns-in_err-push-clause-read g c =
+    read_then g.met.T.Table.stays_then c.loop-number.invariant.read c.in_ok-value.ensures.read

@@ -9,7 +9,7 @@ use Rattle.retrograde.specs.declared.records.Counts.{Counts}
 use Rattle.retrograde.specs.Stored.{Stored, IsTable, view_of}
 use Rattle.best_line.proofs.Passing.{passed_on, not_both, some_here}
 use Rattle.best_line.proofs.ListLemmas.{item_at, found_first, pass_on, none_here}
-use Rattle.table.proofs.Reading.{unread, read_then}
+use Rattle.table.proofs.Frames.{unread, read_then}
 use Rattle.best_line.proofs.steps.first_won.Goals as goal
 
 pub returns-then-is_some-clause-found : goal.returns-then-is_some-clause-found

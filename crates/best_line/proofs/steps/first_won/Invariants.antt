@@ -2,7 +2,7 @@ use Rattle.std.proofs.Common.{◌≡◌, ◌<◌, ℕ, List, Some, slice_get}
 use Rattle.table.specs.Memory.{bytes_of_each}
 use Rattle.retrograde.specs.View.{HasValue}
 use Rattle.retrograde.specs.Stored.{IsTable, view_of}
-use Rattle.table.specs.aid.Reading.{IsRead}
+use Rattle.table.specs.Frames.{IsRead}
 use Rattle.best_line.proofs.steps.first_won.Given as goal
 
 abbrev pub invariant-loop-position : goal.invariant-loop-position

@@ -8,13 +8,13 @@ use Rattle.legal_moves.specs.declared.fault.MoveFault.{MoveFault}
 use Rattle.best_line.specs.aid.Lines.{IsFirstWon}
 use Rattle.best_line.proofs.Passing.{passed_on, not_this, ok_differs, search_consistent, search_wide, search_settled, search_of_none, table_consistent, table_narrow, table_settled, inconsistent_narrow, inconsistent_settled}
 use Rattle.best_line.proofs.StepLemmas.{best_step, no_step}
-use Rattle.table.proofs.Reading.{read_by, read_then}
+use Rattle.table.proofs.Frames.{read_then}
 use Rattle.best_line.proofs.steps.next_on_line.Goals as goal
 
 pub returns-in-Some-clause-step : goal.returns-in-Some-clause-step
 returns-in-Some-clause-step g c = λ honest table.
-    let h = c.in_ok-packed.ensures.honest.0 honest in
-    let same = c.in_ok-packed.ensures.same honest in
+    let h = c.in_ok-packed.ensures.read.honest.0 honest in
+    let same = c.in_ok-packed.ensures.read.same honest in
     let table' = subst (λ (t : Stored (List ℕ)). IsTable t) (sym same) table in
     let won = rw (c.in-Some.is, c.deref.ensures.value) at c.in_ok-next.ensures.found h table' in
     let won' = subst (λ (t : Stored (List ℕ)). IsFirstWon (view_of t) (bytes_of_each c.in_ok-found.found.items) c.args.winner c.args.distance c.in-Some.next) same won in
@@ -23,8 +23,8 @@ returns-in-Some-clause-step g c = λ honest table.
 
 pub returns-clause-none : goal.returns-clause-none
 returns-clause-none g c = λ honest table is.
-    let h = c.in_ok-packed.ensures.honest.0 honest in
-    let same = c.in_ok-packed.ensures.same honest in
+    let h = c.in_ok-packed.ensures.read.honest.0 honest in
+    let same = c.in_ok-packed.ensures.read.same honest in
     let table' = subst (λ (t : Stored (List ℕ)). IsTable t) (sym same) table in
     let none = rw (c.in-None.is, c.deref.ensures.value) at c.in_ok-next.ensures.none h table' in
     let none' = subst (λ (t : Stored (List ℕ)). (y : List ℕ) → Contains (bytes_of_each c.in_ok-found.found.items) y → HasValue (view_of t) y c.args.winner c.args.distance → ⊥) same none in
@@ -33,18 +33,15 @@ returns-clause-none g c = λ honest table is.
 
 pub returns-in_err-next-clause-read : goal.returns-in_err-next-clause-read
 returns-in_err-next-clause-read g c =
-    let packed = c.in_ok-packed.ensures in
-    read_then g.met.T.Table.stays_then (read_by packed.same packed.honest packed.counts packed.stays) c.in_err-next.ensures.read
+    read_then g.met.T.Table.stays_then c.in_ok-packed.ensures.read c.in_err-next.ensures.read
 
 pub returns-in-Some-clause-read : goal.returns-in-Some-clause-read
 returns-in-Some-clause-read g c =
-    let packed = c.in_ok-packed.ensures in
-    read_then g.met.T.Table.stays_then (read_by packed.same packed.honest packed.counts packed.stays) c.in_ok-next.ensures.read
+    read_then g.met.T.Table.stays_then c.in_ok-packed.ensures.read c.in_ok-next.ensures.read
 
 pub returns-clause-read : goal.returns-clause-read
 returns-clause-read g c =
-    let packed = c.in_ok-packed.ensures in
-    read_then g.met.T.Table.stays_then (read_by packed.same packed.honest packed.counts packed.stays) c.in_ok-next.ensures.read
+    read_then g.met.T.Table.stays_then c.in_ok-packed.ensures.read c.in_ok-next.ensures.read
 
 pub returns-in_err-found-clause-none : goal.returns-in_err-found-clause-none
 returns-in_err-found-clause-none g c =
@@ -107,11 +104,11 @@ returns-in_err-packed-clause-fault g c =
 pub returns-in_err-next-clause-fault : goal.returns-in_err-next-clause-fault
 returns-in_err-next-clause-fault g c =
     passed_on _ c.from_residual-in_err-next.result _ c.from_residual-in_err-next.ensures
-    (g.met.T.Table.fails_since _ _ _ _ (g.met.T.Table.stays_goes_on _ _ c.in_ok-packed.ensures.stays) c.in_err-next.ensures.fault)
+    (g.met.T.Table.fails_since _ _ _ _ (g.met.T.Table.stays_goes_on _ _ c.in_ok-packed.ensures.read.stays) c.in_err-next.ensures.fault)
 
 pub returns-in-Some-clause-within : goal.returns-in-Some-clause-within
 returns-in-Some-clause-within g c =
-    subst (λ (k : Counts). c.in-Some.next < k.known) c.in_ok-packed.ensures.counts (rw c.in-Some.is at c.in_ok-next.ensures.within)
+    subst (λ (k : Counts). c.in-Some.next < k.known) c.in_ok-packed.ensures.read.counts (rw c.in-Some.is at c.in_ok-next.ensures.within)
 
 pub returns-in-Some-clause-none : goal.returns-in-Some-clause-none
 returns-in-Some-clause-none g c =

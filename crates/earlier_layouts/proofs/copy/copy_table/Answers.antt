@@ -1,10 +1,6 @@
+use Rattle.table.proofs.Frames.{read_then}
 use Rattle.earlier_layouts.proofs.CopyPassing.{passed_on, leaves_after}
 use Rattle.earlier_layouts.proofs.copy.copy_table.Goals as goal
-
-pub returns-in_err-copy_order-clause-stays : goal.returns-in_err-copy_order-clause-stays
-returns-in_err-copy_order-clause-stays g c =
-    g.met.A.Table.stays_then _ _ _ (g.met.A.Table.stays_then _ _ _ c.copy_positions.ensures.read.stays c.copy_edges.ensures.read.stays)
-    c.copy_order.ensures.read.stays
 
 pub returns-in_err-copy_order-clause-left : goal.returns-in_err-copy_order-clause-left
 returns-in_err-copy_order-clause-left g c =
@@ -19,7 +15,10 @@ returns-in_err-copy_order-clause-left g c =
     (λ h. c.in_ok-copy_edges.ensures.written.honest.0 (c.in_ok-copy_positions.ensures.written.honest.0 h))
     c.in_err-copy_order.ensures.left)
 
-pub returns-clause-stays : goal.returns-clause-stays
-returns-clause-stays g c =
-    g.met.A.Table.stays_then _ _ _ (g.met.A.Table.stays_then _ _ _ c.copy_positions.ensures.read.stays c.copy_edges.ensures.read.stays)
-    c.copy_order.ensures.read.stays
+pub returns-in_err-copy_order-clause-read : goal.returns-in_err-copy_order-clause-read
+returns-in_err-copy_order-clause-read g c =
+    read_then g.met.A.Table.stays_then (read_then g.met.A.Table.stays_then c.copy_positions.ensures.read c.copy_edges.ensures.read) c.copy_order.ensures.read
+
+pub returns-clause-read : goal.returns-clause-read
+returns-clause-read g c =
+    read_then g.met.A.Table.stays_then (read_then g.met.A.Table.stays_then c.copy_positions.ensures.read c.copy_edges.ensures.read) c.copy_order.ensures.read

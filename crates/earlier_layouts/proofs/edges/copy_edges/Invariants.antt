@@ -1,11 +1,11 @@
 use Rattle.std.proofs.Common.{◌≡◌}
-use Rattle.earlier_layouts.specs.aid.CopyParts.{HasOnlyRead, HasGoneOn, with_edges}
+use Rattle.earlier_layouts.specs.aid.CopyParts.{with_edges}
+use Rattle.table.specs.Frames.{IsRead, IsWritten}
 use Rattle.earlier_layouts.proofs.edges.copy_edges.Given as goal
 
 abbrev pub invariant-loop-successor : goal.invariant-loop-successor
 invariant-loop-successor g l = record {
-  known : (g.B.Table.counted l.to).known ≡ (g.B.Table.counted l.fn.to).known;
   copied : g.B.Table.is_honest l.fn.to → g.B.Table.stored l.to ≡ with_edges l.successor (g.A.Table.stored l.fn.from);
-  read : HasOnlyRead g.A.Table.stored g.A.Table.is_honest g.A.Table.counted g.A.Table.stays l.fn.from l.from;
-  written : HasGoneOn g.B.Table.is_honest g.B.Table.goes_on l.fn.to l.to;
+  read : IsRead g.A.Table.stored g.A.Table.is_honest g.A.Table.counted g.A.Table.stays l.fn.from l.from;
+  written : IsWritten g.B.Table.is_honest g.B.Table.counted g.B.Table.goes_on l.fn.to l.to;
 }

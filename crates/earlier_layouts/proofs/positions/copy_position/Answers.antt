@@ -22,9 +22,9 @@ returns-clause-copied g c = λ honest.
     (c.packed.ensures.position from_honest) in
     let kept : HasRecord (g.A.Table.stored c.packed.new.self) c.args.number c.in_ok-kept.kept
     = told _ _ c.record.result c.map_err-2.result _ c.map_err-2.ensures.cases c.map_err-2.ensures.variant c.in_ok-kept.was
-    (c.record.ensures.record (c.packed.ensures.honest.0 from_honest)) in
+    (c.record.ensures.record (c.packed.ensures.read.honest.0 from_honest)) in
     let has : HasRecord (g.A.Table.stored c.args.from.now) c.args.number c.in_ok-kept.kept
-    = subst (λ (t : Stored (List ℕ)). HasRecord t c.args.number c.in_ok-kept.kept) (c.packed.ensures.same from_honest) kept in
+    = subst (λ (t : Stored (List ℕ)). HasRecord t c.args.number c.in_ok-kept.kept) (c.packed.ensures.read.same from_honest) kept in
     let added = told_done c.add.result c.map_err-3.result _ c.map_err-3.ensures.variant c.in_ok-map_err.was (c.add.ensures.added honest) in
     let added_honest = told_done c.add.result c.map_err-3.result _ c.map_err-3.ensures.variant c.in_ok-map_err.was c.add.ensures.honest in
     let written = told_done c.set_record.result c.map_err-4.result _ c.map_err-4.ensures.variant c.in_ok-map_err-2.was

@@ -14,8 +14,10 @@ use Rattle.retrograde.proofs.Expands.{choice, no_choice}
 use Rattle.frontier.specs.aid.Numbering.{AreNumbersOf}
 use Rattle.frontier.proofs.NumberLemmas.{too_many}
 use Rattle.frontier.specs.declared.fault.StepFault.{StepFault}
+use Rattle.table.proofs.Frames.{read_then, as_written}
+use Rattle.frontier.proofs.Frames.{as_grown, grown_then, given_up_since}
 use Rattle.frontier.proofs.Counted.{below, full_or_not, waits, waits_still, grew, more_known}
-use Rattle.frontier.proofs.Passing.{passed_on, table_consistent, choice_consistent, limit_consistent, consistent, fault_is, leaves_after, search_leaves, search_consistent, search_cause}
+use Rattle.frontier.proofs.Passing.{passed_on, table_consistent, choice_consistent, limit_consistent, consistent, fault_is, search_leaves, search_consistent, search_cause}
 use Rattle.frontier.proofs.ExpandLemmas.{IsDone, successor_list, done, fits, room}
 use Rattle.frontier.proofs.expand.expand_one.Given
 use Rattle.frontier.proofs.Faults.{none_done, none_answered, done_consistent}
@@ -44,8 +46,8 @@ returns-then-numbers-gt-MAX_POSITIONS-clause-cause g c = λ honest refused.
     let list : IsSuccessorList packed_cmp graph c.in_ok-packed.packed.items ys = successor_list _ _ ys c.in_ok-found.ensures.exact in
     let forced : graph.mover c.in_ok-packed.packed.items ≡ Role.Keeper → length ys ≤ 1 =
     λ keeper. omega (arith, few, c.len.ensures, c.in_ok-found.found.ok.0, c.keeper_chooses.ensures.forced c.if-keeper_chooses.false (c.mover.ensures ∙ keeper)) in
-    let one = c.in_ok-packed.ensures.same honest in
-    let are = c.in_ok-numbers.ensures.numbers (c.in_ok-packed.ensures.honest.0 honest) in
+    let one = c.in_ok-packed.ensures.read.same honest in
+    let are = c.in_ok-numbers.ensures.numbers (c.in_ok-packed.ensures.read.honest.0 honest) in
     let here = subst (λ (t : Stored (List ℕ)). AreNumbersOf t.positions (length t.positions) ys c.in_ok-numbers.numbers.each.items c.in_ok-numbers.numbers.next) one (rw c.deref.ensures.value at are) in
     let many : IsTooMany packed_cmp graph (2 ^ 24) (g.T.Table.stored c.args.table.now).positions c.in_ok-packed.packed.items =
     too_many packed_cmp nat_list_cmp_total (g.T.Table.stored c.args.table.now).positions c.counts-before.result.expanded graph c.in_ok-packed.packed.items ys
@@ -59,11 +61,11 @@ note_all-requires-clause-ascending g c =
 
 pub returns-in_err-finish-clause-consistent : goal.returns-in_err-finish-clause-consistent
 returns-in_err-finish-clause-consistent g c = λ honest sound is.
-    let h1 = c.in_ok-packed.ensures.honest.0 honest in
-    let h2 = c.in_ok-numbers.ensures.honest.0 h1 in
-    let h3 = c.in_ok-note_all.ensures.honest.0 h2 in
+    let h1 = c.in_ok-packed.ensures.read.honest.0 honest in
+    let h2 = c.in_ok-numbers.ensures.read.honest.0 h1 in
+    let h3 = c.in_ok-note_all.ensures.ok.honest.0 h2 in
     let ys = bytes_of_each c.in_ok-found.found.items in
-    let same = c.in_ok-numbers.ensures.same h1 ∙ c.in_ok-packed.ensures.same honest in
+    let same = c.in_ok-numbers.ensures.read.same h1 ∙ c.in_ok-packed.ensures.read.same honest in
     let noted = subst (λ (t : Stored (List ℕ)). AreNoted c.counts-before.result.expanded ys t (g.T.Table.stored c.note_all.new.table)) same (rw c.deref-3.ensures.value at c.in_ok-note_all.ensures.noted h2) in
     let counts = g.met.T.Table.counts_are c.args.table.now honest in
     let waiting : expanded_count (g.T.Table.stored c.args.table.now) < length (g.T.Table.stored c.args.table.now).positions =
@@ -78,22 +80,22 @@ is_done : (g : Given.Over) (c : goal.After-drop-found-2 g) → g.T.Table.is_hone
     → IsLocallySound (g.M.GameGraph.graph c.args.source.now) (g.M.GameGraph.is_wide c.args.source.now) (g.T.Table.stored c.args.table.now)
     → IsDone (g.M.GameGraph.graph c.args.source.now) (g.M.GameGraph.is_wide c.args.source.now) (g.T.Table.stored c.args.table.now) (g.T.Table.stored c.finish.new.table)
 is_done g c honest sound =
-    let h1 = c.in_ok-packed.ensures.honest.0 honest in
-    let h2 = c.in_ok-numbers.ensures.honest.0 h1 in
-    let h3 = c.in_ok-note_all.ensures.honest.0 h2 in
-    let h4 = c.in_ok-finish.ensures.honest.0 h3 in
+    let h1 = c.in_ok-packed.ensures.read.honest.0 honest in
+    let h2 = c.in_ok-numbers.ensures.read.honest.0 h1 in
+    let h3 = c.in_ok-note_all.ensures.ok.honest.0 h2 in
+    let h4 = c.in_ok-finish.ensures.ok.honest.0 h3 in
     let graph = g.M.GameGraph.graph c.args.source.now in
     let ys = bytes_of_each c.in_ok-found.found.items in
     let few = length-map c.in_ok-found.found.items (λ (p : ArrayVec ℕ). p.items) in
     let list : IsSuccessorList packed_cmp graph c.in_ok-packed.packed.items ys = successor_list _ _ ys c.in_ok-found.ensures.exact in
     let forced : graph.mover c.in_ok-packed.packed.items ≡ Role.Keeper → length ys ≤ 1 =
     λ keeper. omega (arith, few, c.len.ensures, c.in_ok-found.found.ok.0, c.keeper_chooses.ensures.forced c.if-keeper_chooses.false (c.mover.ensures ∙ keeper)) in
-    let same = c.in_ok-numbers.ensures.same h1 ∙ c.in_ok-packed.ensures.same honest in
+    let same = c.in_ok-numbers.ensures.read.same h1 ∙ c.in_ok-packed.ensures.read.same honest in
     let noted = subst (λ (t : Stored (List ℕ)). AreNoted c.counts-before.result.expanded ys t (g.T.Table.stored c.note_all.new.table)) same (rw c.deref-3.ensures.value at c.in_ok-note_all.ensures.noted h2) in
     let count = ap (λ (k : Counts). k.known) (g.met.T.Table.counts_are c.finish.new.table h4) in
-    let few' = c.in_ok-note_all.ensures.room (subst (λ (k : Counts). k.known ≤ 2 ^ 24) (sym (c.in_ok-numbers.ensures.counts ∙ c.in_ok-packed.ensures.counts)) c.requires.limit) in
+    let few' = c.in_ok-note_all.ensures.ok.room (subst (λ (k : Counts). k.known ≤ 2 ^ 24) (sym (c.in_ok-numbers.ensures.read.counts ∙ c.in_ok-packed.ensures.read.counts)) c.requires.limit) in
     let room : length (g.T.Table.stored c.finish.new.table).positions ≤ 2 ^ 24 =
-    subst (λ (n : ℕ). n ≤ 2 ^ 24) count (subst (λ (n : ℕ). n ≤ 2 ^ 24) (sym c.in_ok-finish.ensures.known) few') in
+    subst (λ (n : ℕ). n ≤ 2 ^ 24) count (subst (λ (n : ℕ). n ≤ 2 ^ 24) (sym c.in_ok-finish.ensures.ok.known) few') in
     done graph (g.M.GameGraph.is_wide c.args.source.now) (g.T.Table.stored c.args.table.now) (g.T.Table.stored c.finish.new.table) sound
     c.in_ok-packed.packed.items ys (g.T.Table.stored c.note_all.new.table) c.counts-before.result.expanded _ c.ahead.result
     (ap (λ (k : Counts). k.expanded) (c.counts-before.ensures ∙ g.met.T.Table.counts_are _ honest)) (c.in_ok-packed.ensures.position honest) list forced
@@ -110,12 +112,12 @@ returns-clause-done g c = λ honest sound. (is_done g c honest sound).done
 
 pub returns-clause-fits : goal.returns-clause-fits
 returns-clause-fits g c = λ honest table.
-    let h1 = c.in_ok-packed.ensures.honest.0 honest in
-    let h2 = c.in_ok-numbers.ensures.honest.0 h1 in
-    let h3 = c.in_ok-note_all.ensures.honest.0 h2 in
+    let h1 = c.in_ok-packed.ensures.read.honest.0 honest in
+    let h2 = c.in_ok-numbers.ensures.read.honest.0 h1 in
+    let h3 = c.in_ok-note_all.ensures.ok.honest.0 h2 in
     let ys = bytes_of_each c.in_ok-found.found.items in
     let few = length-map c.in_ok-found.found.items (λ (p : ArrayVec ℕ). p.items) in
-    let same = c.in_ok-numbers.ensures.same h1 ∙ c.in_ok-packed.ensures.same honest in
+    let same = c.in_ok-numbers.ensures.read.same h1 ∙ c.in_ok-packed.ensures.read.same honest in
     let noted = subst (λ (t : Stored (List ℕ)). AreNoted c.counts-before.result.expanded ys t (g.T.Table.stored c.note_all.new.table)) same (rw c.deref-3.ensures.value at c.in_ok-note_all.ensures.noted h2) in
     fits (g.M.GameGraph.graph c.args.source.now) (g.T.Table.stored c.args.table.now) (g.T.Table.stored c.finish.new.table) (g.T.Table.stored c.note_all.new.table) table
     c.in_ok-packed.packed.items ys c.counts-before.result.expanded _ c.ahead.result
@@ -149,7 +151,7 @@ returns-in_err-found-clause-cause g c =
 
 pub returns-in_err-found-clause-unchanged : goal.returns-in_err-found-clause-unchanged
 returns-in_err-found-clause-unchanged g c =
-    λ honest. passed_on _ c.from_residual-in_err-found.result _ c.from_residual-in_err-found.ensures (λ refused. (c.in_ok-packed.ensures.honest.0 honest, c.in_ok-packed.ensures.same honest))
+    λ honest. passed_on _ c.from_residual-in_err-found.result _ c.from_residual-in_err-found.ensures (λ refused. (c.in_ok-packed.ensures.read.honest.0 honest, c.in_ok-packed.ensures.read.same honest))
 
 pub returns-in_err-found-clause-consistent : goal.returns-in_err-found-clause-consistent
 returns-in_err-found-clause-consistent g c =
@@ -157,11 +159,11 @@ returns-in_err-found-clause-consistent g c =
 
 pub returns-in_err-found-clause-left : goal.returns-in_err-found-clause-left
 returns-in_err-found-clause-left g c =
-    passed_on _ c.from_residual-in_err-found.result _ c.from_residual-in_err-found.ensures (search_leaves _ c.in_err-found.ensures.others _ _ (g.met.T.Table.stays_goes_on _ _ c.in_ok-packed.ensures.stays))
+    passed_on _ c.from_residual-in_err-found.result _ c.from_residual-in_err-found.ensures (search_leaves _ c.in_err-found.ensures.others _ _ (g.met.T.Table.stays_goes_on _ _ c.in_ok-packed.ensures.read.stays))
 
 pub returns-then-keeper_chooses-clause-unchanged : goal.returns-then-keeper_chooses-clause-unchanged
 returns-then-keeper_chooses-clause-unchanged g c =
-    λ honest refused. (c.in_ok-packed.ensures.honest.0 honest, c.in_ok-packed.ensures.same honest)
+    λ honest refused. (c.in_ok-packed.ensures.read.honest.0 honest, c.in_ok-packed.ensures.read.same honest)
 
 pub returns-then-keeper_chooses-clause-consistent : goal.returns-then-keeper_chooses-clause-consistent
 returns-then-keeper_chooses-clause-consistent g c =
@@ -169,7 +171,7 @@ returns-then-keeper_chooses-clause-consistent g c =
 
 pub returns-then-keeper_chooses-clause-left : goal.returns-then-keeper_chooses-clause-left
 returns-then-keeper_chooses-clause-left g c =
-    g.met.T.Table.stays_goes_on _ _ c.in_ok-packed.ensures.stays
+    g.met.T.Table.stays_goes_on _ _ c.in_ok-packed.ensures.read.stays
 
 pub numbers_of-requires-clause-few : goal.numbers_of-requires-clause-few
 numbers_of-requires-clause-few g c =
@@ -177,60 +179,45 @@ numbers_of-requires-clause-few g c =
 
 pub numbers_of-requires-clause-limit : goal.numbers_of-requires-clause-limit
 numbers_of-requires-clause-limit g c =
-    subst (λ (k : Counts). k.known ≤ 2 ^ 24) (sym c.in_ok-packed.ensures.counts) c.requires.limit
+    subst (λ (k : Counts). k.known ≤ 2 ^ 24) (sym c.in_ok-packed.ensures.read.counts) c.requires.limit
 
 pub returns-in_err-numbers-clause-cause : goal.returns-in_err-numbers-clause-cause
 returns-in_err-numbers-clause-cause g c =
-    λ honest. passed_on _ c.from_residual-in_err-numbers.result _ c.from_residual-in_err-numbers.ensures (λ refused. absurd (c.in_err-numbers.ensures.goes_on refused))
+    λ honest. passed_on _ c.from_residual-in_err-numbers.result _ c.from_residual-in_err-numbers.ensures (λ refused. absurd (c.in_err-numbers.ensures.err.goes_on refused))
 
 pub returns-in_err-numbers-clause-unchanged : goal.returns-in_err-numbers-clause-unchanged
 returns-in_err-numbers-clause-unchanged g c =
-    λ honest. passed_on _ c.from_residual-in_err-numbers.result _ c.from_residual-in_err-numbers.ensures (λ refused. absurd (c.in_err-numbers.ensures.goes_on refused))
+    λ honest. passed_on _ c.from_residual-in_err-numbers.result _ c.from_residual-in_err-numbers.ensures (λ refused. absurd (c.in_err-numbers.ensures.err.goes_on refused))
 
 pub returns-in_err-numbers-clause-consistent : goal.returns-in_err-numbers-clause-consistent
 returns-in_err-numbers-clause-consistent g c =
     λ honest sound. consistent c.from_residual-in_err-numbers.result _ c.from_residual-in_err-numbers.ensures (λ is. c.in_err-numbers.ensures.consistent (ap (λ (f : StepFault). Err f) is))
 
-pub returns-in_err-numbers-clause-left : goal.returns-in_err-numbers-clause-left
-returns-in_err-numbers-clause-left g c =
-    passed_on _ c.from_residual-in_err-numbers.result _ c.from_residual-in_err-numbers.ensures
-    (leaves_after _ _ _ _ _ (g.met.T.Table.goes_on_then _ _ _ (g.met.T.Table.stays_goes_on _ _ c.in_ok-packed.ensures.stays)) (λ fault. g.met.T.Table.fails_since _ _ _ fault (g.met.T.Table.stays_goes_on _ _ c.in_ok-packed.ensures.stays)) c.in_err-numbers.ensures.left)
-
 pub returns-in_err-note_all-clause-cause : goal.returns-in_err-note_all-clause-cause
 returns-in_err-note_all-clause-cause g c =
-    λ honest. passed_on _ c.from_residual-in_err-note_all.result _ c.from_residual-in_err-note_all.ensures (λ refused. absurd (c.in_err-note_all.ensures.goes_on refused))
+    λ honest. passed_on _ c.from_residual-in_err-note_all.result _ c.from_residual-in_err-note_all.ensures (λ refused. absurd (c.in_err-note_all.ensures.err.goes_on refused))
 
 pub returns-in_err-note_all-clause-unchanged : goal.returns-in_err-note_all-clause-unchanged
 returns-in_err-note_all-clause-unchanged g c =
-    λ honest. passed_on _ c.from_residual-in_err-note_all.result _ c.from_residual-in_err-note_all.ensures (λ refused. absurd (c.in_err-note_all.ensures.goes_on refused))
+    λ honest. passed_on _ c.from_residual-in_err-note_all.result _ c.from_residual-in_err-note_all.ensures (λ refused. absurd (c.in_err-note_all.ensures.err.goes_on refused))
 
 pub returns-in_err-note_all-clause-consistent : goal.returns-in_err-note_all-clause-consistent
 returns-in_err-note_all-clause-consistent g c =
     λ honest sound. consistent c.from_residual-in_err-note_all.result _ c.from_residual-in_err-note_all.ensures (λ is. c.in_err-note_all.ensures.consistent (ap (λ (f : StepFault). Err f) is))
 
-pub returns-in_err-note_all-clause-left : goal.returns-in_err-note_all-clause-left
-returns-in_err-note_all-clause-left g c =
-    passed_on _ c.from_residual-in_err-note_all.result _ c.from_residual-in_err-note_all.ensures
-    (leaves_after _ _ _ _ _ (g.met.T.Table.goes_on_then _ _ _ (g.met.T.Table.stays_goes_on _ _ (g.met.T.Table.stays_then _ _ _ c.in_ok-packed.ensures.stays c.in_ok-numbers.ensures.stays))) (λ fault. g.met.T.Table.fails_since _ _ _ fault (g.met.T.Table.stays_goes_on _ _ (g.met.T.Table.stays_then _ _ _ c.in_ok-packed.ensures.stays c.in_ok-numbers.ensures.stays))) c.in_err-note_all.ensures.left)
-
 pub returns-in_err-finish-clause-cause : goal.returns-in_err-finish-clause-cause
 returns-in_err-finish-clause-cause g c =
-    λ honest. passed_on _ c.from_residual-in_err-finish.result _ c.from_residual-in_err-finish.ensures (λ refused. absurd (c.in_err-finish.ensures.goes_on refused))
+    λ honest. passed_on _ c.from_residual-in_err-finish.result _ c.from_residual-in_err-finish.ensures (λ refused. absurd (c.in_err-finish.ensures.err.goes_on refused))
 
 pub returns-in_err-finish-clause-unchanged : goal.returns-in_err-finish-clause-unchanged
 returns-in_err-finish-clause-unchanged g c =
-    λ honest. passed_on _ c.from_residual-in_err-finish.result _ c.from_residual-in_err-finish.ensures (λ refused. absurd (c.in_err-finish.ensures.goes_on refused))
-
-pub returns-in_err-finish-clause-left : goal.returns-in_err-finish-clause-left
-returns-in_err-finish-clause-left g c =
-    passed_on _ c.from_residual-in_err-finish.result _ c.from_residual-in_err-finish.ensures
-    (leaves_after _ _ _ _ _ (g.met.T.Table.goes_on_then _ _ _ (g.met.T.Table.goes_on_then _ _ _ (g.met.T.Table.stays_goes_on _ _ (g.met.T.Table.stays_then _ _ _ c.in_ok-packed.ensures.stays c.in_ok-numbers.ensures.stays)) c.in_ok-note_all.ensures.ahead)) (λ fault. g.met.T.Table.fails_since _ _ _ fault (g.met.T.Table.goes_on_then _ _ _ (g.met.T.Table.stays_goes_on _ _ (g.met.T.Table.stays_then _ _ _ c.in_ok-packed.ensures.stays c.in_ok-numbers.ensures.stays)) c.in_ok-note_all.ensures.ahead)) c.in_err-finish.ensures.left)
+    λ honest. passed_on _ c.from_residual-in_err-finish.result _ c.from_residual-in_err-finish.ensures (λ refused. absurd (c.in_err-finish.ensures.err.goes_on refused))
 
 pub returns-then-numbers-gt-MAX_POSITIONS-clause-unchanged : goal.returns-then-numbers-gt-MAX_POSITIONS-clause-unchanged
 returns-then-numbers-gt-MAX_POSITIONS-clause-unchanged g c =
     λ honest refused.
-    let h1 = c.in_ok-packed.ensures.honest.0 honest in
-    (c.in_ok-numbers.ensures.honest.0 h1, c.in_ok-numbers.ensures.same h1 ∙ c.in_ok-packed.ensures.same honest)
+    let h1 = c.in_ok-packed.ensures.read.honest.0 honest in
+    (c.in_ok-numbers.ensures.read.honest.0 h1, c.in_ok-numbers.ensures.read.same h1 ∙ c.in_ok-packed.ensures.read.same honest)
 
 pub returns-then-numbers-gt-MAX_POSITIONS-clause-consistent : goal.returns-then-numbers-gt-MAX_POSITIONS-clause-consistent
 returns-then-numbers-gt-MAX_POSITIONS-clause-consistent g c =
@@ -238,11 +225,11 @@ returns-then-numbers-gt-MAX_POSITIONS-clause-consistent g c =
 
 pub returns-then-numbers-gt-MAX_POSITIONS-clause-left : goal.returns-then-numbers-gt-MAX_POSITIONS-clause-left
 returns-then-numbers-gt-MAX_POSITIONS-clause-left g c =
-    g.met.T.Table.stays_goes_on _ _ (g.met.T.Table.stays_then _ _ _ c.in_ok-packed.ensures.stays c.in_ok-numbers.ensures.stays)
+    g.met.T.Table.stays_goes_on _ _ (g.met.T.Table.stays_then _ _ _ c.in_ok-packed.ensures.read.stays c.in_ok-numbers.ensures.read.stays)
 
 pub note_all-requires-clause-predecessor : goal.note_all-requires-clause-predecessor
 note_all-requires-clause-predecessor g c =
-    waits c.counts-before.result _ _ c.counts-before.ensures (c.in_ok-numbers.ensures.counts ∙ c.in_ok-packed.ensures.counts) c.requires.waiting
+    waits c.counts-before.result _ _ c.counts-before.ensures (c.in_ok-numbers.ensures.read.counts ∙ c.in_ok-packed.ensures.read.counts) c.requires.waiting
 
 pub note_all-requires-clause-lengths : goal.note_all-requires-clause-lengths
 note_all-requires-clause-lengths g c =
@@ -257,57 +244,41 @@ note_all-requires-clause-limit g c =
 pub note_all-requires-clause-numbers : goal.note_all-requires-clause-numbers
 note_all-requires-clause-numbers g c =
     λ h2.
-    let h1 = c.in_ok-numbers.ensures.honest.1 h2 in
+    let h1 = c.in_ok-numbers.ensures.read.honest.1 h2 in
     let ys = bytes_of_each c.in_ok-found.found.items in
     let are = rw c.deref.ensures.value at c.in_ok-numbers.ensures.numbers h1 in
-    let here = subst (λ (t : Stored (List ℕ)). AreNumbersOf t.positions (length t.positions) ys c.in_ok-numbers.numbers.each.items c.in_ok-numbers.numbers.next) (sym (c.in_ok-numbers.ensures.same h1)) are in
+    let here = subst (λ (t : Stored (List ℕ)). AreNumbersOf t.positions (length t.positions) ys c.in_ok-numbers.numbers.each.items c.in_ok-numbers.numbers.next) (sym (c.in_ok-numbers.ensures.read.same h1)) are in
     (c.in_ok-numbers.numbers.next, rw (c.deref-2.ensures.value, c.deref-3.ensures.value) here)
 
 pub finish-requires : goal.finish-requires
 finish-requires g c =
-    waits_still c.counts-before.result _ _ c.counts-before.ensures (c.in_ok-numbers.ensures.counts ∙ c.in_ok-packed.ensures.counts) _ c.in_ok-note_all.ensures.more c.requires.waiting
+    waits_still c.counts-before.result _ _ c.counts-before.ensures (c.in_ok-numbers.ensures.read.counts ∙ c.in_ok-packed.ensures.read.counts) _ c.in_ok-note_all.ensures.ok.more c.requires.waiting
 
 pub overflow_sub-result : goal.overflow_sub-result
 overflow_sub-result g c =
-    grew c.counts-before.result _ _ c.counts-before.ensures (c.in_ok-numbers.ensures.counts ∙ c.in_ok-packed.ensures.counts) _ c.in_ok-note_all.ensures.more _ _ c.in_ok-finish.ensures.known c.counts.ensures
+    grew c.counts-before.result _ _ c.counts-before.ensures (c.in_ok-numbers.ensures.read.counts ∙ c.in_ok-packed.ensures.read.counts) _ c.in_ok-note_all.ensures.ok.more _ _ c.in_ok-finish.ensures.ok.known c.counts.ensures
 
 pub overflow_cast-len : goal.overflow_cast-len
 overflow_cast-len g c =
     omega (arith, c.len-2.ensures, c.in_ok-found.ensures.few)
 
-pub returns-clause-ahead : goal.returns-clause-ahead
-returns-clause-ahead g c =
-    g.met.T.Table.goes_on_then _ _ _ (g.met.T.Table.goes_on_then _ _ _ (g.met.T.Table.stays_goes_on _ _ (g.met.T.Table.stays_then _ _ _ c.in_ok-packed.ensures.stays c.in_ok-numbers.ensures.stays)) c.in_ok-note_all.ensures.ahead) c.in_ok-finish.ensures.ahead
-
-pub returns-clause-honest : goal.returns-clause-honest
-returns-clause-honest g c = (
-  λ h. c.in_ok-finish.ensures.honest.0 (c.in_ok-note_all.ensures.honest.0 (c.in_ok-numbers.ensures.honest.0 (c.in_ok-packed.ensures.honest.0 h))),
-  λ h. c.in_ok-packed.ensures.honest.1 (c.in_ok-numbers.ensures.honest.1 (c.in_ok-note_all.ensures.honest.1 (c.in_ok-finish.ensures.honest.1 h))),
-)
-
 pub returns-clause-room : goal.returns-clause-room
 returns-clause-room g c =
-    let few = c.in_ok-note_all.ensures.room (subst (λ (k : Counts). k.known ≤ 2 ^ 24) (sym (c.in_ok-numbers.ensures.counts ∙ c.in_ok-packed.ensures.counts)) c.requires.limit) in
-    subst (λ (n : ℕ). n ≤ 2 ^ 24) (sym c.in_ok-finish.ensures.known) few
+    let few = c.in_ok-note_all.ensures.ok.room (subst (λ (k : Counts). k.known ≤ 2 ^ 24) (sym (c.in_ok-numbers.ensures.read.counts ∙ c.in_ok-packed.ensures.read.counts)) c.requires.limit) in
+    subst (λ (n : ℕ). n ≤ 2 ^ 24) (sym c.in_ok-finish.ensures.ok.known) few
 
 pub returns-clause-more : goal.returns-clause-more
 returns-clause-more g c =
     λ honest.
-    let h1 = c.in_ok-packed.ensures.honest.0 honest in
-    let h2 = c.in_ok-numbers.ensures.honest.0 h1 in
-    let h4 = c.in_ok-finish.ensures.honest.0 (c.in_ok-note_all.ensures.honest.0 h2) in
+    let h1 = c.in_ok-packed.ensures.read.honest.0 honest in
+    let h2 = c.in_ok-numbers.ensures.read.honest.0 h1 in
+    let h4 = c.in_ok-finish.ensures.ok.honest.0 (c.in_ok-note_all.ensures.ok.honest.0 h2) in
     let first = ap (λ (k : Counts). k.known) (g.met.T.Table.counts_are c.args.table.now honest) in
     let last = ap (λ (k : Counts). k.known) (g.met.T.Table.counts_are c.finish.new.table h4) in
-    more_known c.counts-before.result _ _ c.counts-before.ensures (c.in_ok-numbers.ensures.counts ∙ c.in_ok-packed.ensures.counts) _ c.in_ok-note_all.ensures.more _ _ c.in_ok-finish.ensures.known c.counts.ensures _ _ first last
-
-pub returns-in_err-packed-clause-honest : goal.returns-in_err-packed-clause-honest
-returns-in_err-packed-clause-honest g c = none_done _ c.from_residual.result c.from_residual.ensures.0
+    more_known c.counts-before.result _ _ c.counts-before.ensures (c.in_ok-numbers.ensures.read.counts ∙ c.in_ok-packed.ensures.read.counts) _ c.in_ok-note_all.ensures.ok.more _ _ c.in_ok-finish.ensures.ok.known c.counts.ensures _ _ first last
 
 pub returns-in_err-packed-clause-room : goal.returns-in_err-packed-clause-room
 returns-in_err-packed-clause-room g c = none_done _ c.from_residual.result c.from_residual.ensures.0
-
-pub returns-in_err-packed-clause-ahead : goal.returns-in_err-packed-clause-ahead
-returns-in_err-packed-clause-ahead g c = none_done _ c.from_residual.result c.from_residual.ensures.0
 
 pub returns-in_err-packed-clause-expands : goal.returns-in_err-packed-clause-expands
 returns-in_err-packed-clause-expands g c = λ honest sound. none_done _ c.from_residual.result c.from_residual.ensures.0
@@ -324,14 +295,8 @@ returns-in_err-packed-clause-last g c = λ honest sound. none_done _ c.from_resi
 pub returns-in_err-packed-clause-more : goal.returns-in_err-packed-clause-more
 returns-in_err-packed-clause-more g c = λ honest. none_answered _ c.from_residual.result c.from_residual.ensures.0
 
-pub returns-in_err-found-clause-honest : goal.returns-in_err-found-clause-honest
-returns-in_err-found-clause-honest g c = none_done _ c.from_residual-in_err-found.result c.from_residual-in_err-found.ensures.0
-
 pub returns-in_err-found-clause-room : goal.returns-in_err-found-clause-room
 returns-in_err-found-clause-room g c = none_done _ c.from_residual-in_err-found.result c.from_residual-in_err-found.ensures.0
-
-pub returns-in_err-found-clause-ahead : goal.returns-in_err-found-clause-ahead
-returns-in_err-found-clause-ahead g c = none_done _ c.from_residual-in_err-found.result c.from_residual-in_err-found.ensures.0
 
 pub returns-in_err-found-clause-expands : goal.returns-in_err-found-clause-expands
 returns-in_err-found-clause-expands g c = λ honest sound. none_done _ c.from_residual-in_err-found.result c.from_residual-in_err-found.ensures.0
@@ -348,14 +313,8 @@ returns-in_err-found-clause-last g c = λ honest sound. none_done _ c.from_resid
 pub returns-in_err-found-clause-more : goal.returns-in_err-found-clause-more
 returns-in_err-found-clause-more g c = λ honest. none_answered _ c.from_residual-in_err-found.result c.from_residual-in_err-found.ensures.0
 
-pub returns-in_err-numbers-clause-honest : goal.returns-in_err-numbers-clause-honest
-returns-in_err-numbers-clause-honest g c = none_done _ c.from_residual-in_err-numbers.result c.from_residual-in_err-numbers.ensures.0
-
 pub returns-in_err-numbers-clause-room : goal.returns-in_err-numbers-clause-room
 returns-in_err-numbers-clause-room g c = none_done _ c.from_residual-in_err-numbers.result c.from_residual-in_err-numbers.ensures.0
-
-pub returns-in_err-numbers-clause-ahead : goal.returns-in_err-numbers-clause-ahead
-returns-in_err-numbers-clause-ahead g c = none_done _ c.from_residual-in_err-numbers.result c.from_residual-in_err-numbers.ensures.0
 
 pub returns-in_err-numbers-clause-expands : goal.returns-in_err-numbers-clause-expands
 returns-in_err-numbers-clause-expands g c = λ honest sound. none_done _ c.from_residual-in_err-numbers.result c.from_residual-in_err-numbers.ensures.0
@@ -372,14 +331,8 @@ returns-in_err-numbers-clause-last g c = λ honest sound. none_done _ c.from_res
 pub returns-in_err-numbers-clause-more : goal.returns-in_err-numbers-clause-more
 returns-in_err-numbers-clause-more g c = λ honest. none_answered _ c.from_residual-in_err-numbers.result c.from_residual-in_err-numbers.ensures.0
 
-pub returns-in_err-note_all-clause-honest : goal.returns-in_err-note_all-clause-honest
-returns-in_err-note_all-clause-honest g c = none_done _ c.from_residual-in_err-note_all.result c.from_residual-in_err-note_all.ensures.0
-
 pub returns-in_err-note_all-clause-room : goal.returns-in_err-note_all-clause-room
 returns-in_err-note_all-clause-room g c = none_done _ c.from_residual-in_err-note_all.result c.from_residual-in_err-note_all.ensures.0
-
-pub returns-in_err-note_all-clause-ahead : goal.returns-in_err-note_all-clause-ahead
-returns-in_err-note_all-clause-ahead g c = none_done _ c.from_residual-in_err-note_all.result c.from_residual-in_err-note_all.ensures.0
 
 pub returns-in_err-note_all-clause-expands : goal.returns-in_err-note_all-clause-expands
 returns-in_err-note_all-clause-expands g c =
@@ -397,14 +350,8 @@ returns-in_err-note_all-clause-last g c = λ honest sound. none_done _ c.from_re
 pub returns-in_err-note_all-clause-more : goal.returns-in_err-note_all-clause-more
 returns-in_err-note_all-clause-more g c = λ honest. none_answered _ c.from_residual-in_err-note_all.result c.from_residual-in_err-note_all.ensures.0
 
-pub returns-in_err-finish-clause-honest : goal.returns-in_err-finish-clause-honest
-returns-in_err-finish-clause-honest g c = none_done _ c.from_residual-in_err-finish.result c.from_residual-in_err-finish.ensures.0
-
 pub returns-in_err-finish-clause-room : goal.returns-in_err-finish-clause-room
 returns-in_err-finish-clause-room g c = none_done _ c.from_residual-in_err-finish.result c.from_residual-in_err-finish.ensures.0
-
-pub returns-in_err-finish-clause-ahead : goal.returns-in_err-finish-clause-ahead
-returns-in_err-finish-clause-ahead g c = none_done _ c.from_residual-in_err-finish.result c.from_residual-in_err-finish.ensures.0
 
 pub returns-in_err-finish-clause-expands : goal.returns-in_err-finish-clause-expands
 returns-in_err-finish-clause-expands g c = λ honest sound. none_done _ c.from_residual-in_err-finish.result c.from_residual-in_err-finish.ensures.0
@@ -421,14 +368,8 @@ returns-in_err-finish-clause-last g c = λ honest sound. none_done _ c.from_resi
 pub returns-in_err-finish-clause-more : goal.returns-in_err-finish-clause-more
 returns-in_err-finish-clause-more g c = λ honest. none_answered _ c.from_residual-in_err-finish.result c.from_residual-in_err-finish.ensures.0
 
-pub returns-then-keeper_chooses-clause-honest : goal.returns-then-keeper_chooses-clause-honest
-returns-then-keeper_chooses-clause-honest g c = tt
-
 pub returns-then-keeper_chooses-clause-room : goal.returns-then-keeper_chooses-clause-room
 returns-then-keeper_chooses-clause-room g c = tt
-
-pub returns-then-keeper_chooses-clause-ahead : goal.returns-then-keeper_chooses-clause-ahead
-returns-then-keeper_chooses-clause-ahead g c = tt
 
 pub returns-then-keeper_chooses-clause-expands : goal.returns-then-keeper_chooses-clause-expands
 returns-then-keeper_chooses-clause-expands g c = λ honest sound. tt
@@ -445,14 +386,8 @@ returns-then-keeper_chooses-clause-last g c = λ honest sound. tt
 pub returns-then-keeper_chooses-clause-more : goal.returns-then-keeper_chooses-clause-more
 returns-then-keeper_chooses-clause-more g c = λ honest. tt
 
-pub returns-then-numbers-gt-MAX_POSITIONS-clause-honest : goal.returns-then-numbers-gt-MAX_POSITIONS-clause-honest
-returns-then-numbers-gt-MAX_POSITIONS-clause-honest g c = tt
-
 pub returns-then-numbers-gt-MAX_POSITIONS-clause-room : goal.returns-then-numbers-gt-MAX_POSITIONS-clause-room
 returns-then-numbers-gt-MAX_POSITIONS-clause-room g c = tt
-
-pub returns-then-numbers-gt-MAX_POSITIONS-clause-ahead : goal.returns-then-numbers-gt-MAX_POSITIONS-clause-ahead
-returns-then-numbers-gt-MAX_POSITIONS-clause-ahead g c = tt
 
 pub returns-then-numbers-gt-MAX_POSITIONS-clause-expands : goal.returns-then-numbers-gt-MAX_POSITIONS-clause-expands
 returns-then-numbers-gt-MAX_POSITIONS-clause-expands g c = λ honest sound. tt
@@ -521,17 +456,17 @@ returns-clause-full g c = λ honest is. absurd (done_full _ is)
 pub returns-in_err-numbers-clause-full : goal.returns-in_err-numbers-clause-full
 returns-in_err-numbers-clause-full g c = λ honest is.
     let none = g.met.T.Table.full_free _ _
-    (full_fails _ _ c.from_residual-in_err-numbers.result _ c.from_residual-in_err-numbers.ensures c.in_err-numbers.ensures.left is) in
+    (full_fails _ _ c.from_residual-in_err-numbers.result _ c.from_residual-in_err-numbers.ensures c.in_err-numbers.ensures.err.left is) in
     expanding_full (g.M.GameGraph.graph c.args.source.now) (g.T.Table.stored c.args.table.now) c.in_ok-packed.packed.items c.in_ok-found.found.items
     c.counts-before.result.expanded (ap (λ (k : Counts). k.expanded) (c.counts-before.ensures ∙ g.met.T.Table.counts_are _ honest))
     (c.in_ok-packed.ensures.position honest) c.in_ok-found.ensures.exact (length c.in_ok-found.found.items) refl
     (g.T.Table.free c.args.table.now) (g.T.Table.free c.numbers_of.new.table)
-    (omega (arith, g.met.T.Table.stays_free _ _ c.in_ok-packed.ensures.stays, g.met.T.Table.stays_free _ _ c.in_err-numbers.ensures.stays)) none
+    (omega (arith, g.met.T.Table.stays_free _ _ c.in_ok-packed.ensures.read.stays, g.met.T.Table.stays_free _ _ c.in_err-numbers.ensures.read.stays)) none
 
 pub returns-in_err-note_all-clause-full : goal.returns-in_err-note_all-clause-full
 returns-in_err-note_all-clause-full g c = λ honest is.
     let none = g.met.T.Table.full_free _ _
-    (full_fails _ _ c.from_residual-in_err-note_all.result _ c.from_residual-in_err-note_all.ensures c.in_err-note_all.ensures.left is) in
+    (full_fails _ _ c.from_residual-in_err-note_all.result _ c.from_residual-in_err-note_all.ensures c.in_err-note_all.ensures.err.left is) in
     expanding_full (g.M.GameGraph.graph c.args.source.now) (g.T.Table.stored c.args.table.now) c.in_ok-packed.packed.items c.in_ok-found.found.items
     c.counts-before.result.expanded (ap (λ (k : Counts). k.expanded) (c.counts-before.ensures ∙ g.met.T.Table.counts_are _ honest))
     (c.in_ok-packed.ensures.position honest) c.in_ok-found.ensures.exact (length c.deref-2.result.now) (ap (λ (ns : List ℕ). length ns) c.deref-2.ensures.value
@@ -539,15 +474,15 @@ returns-in_err-note_all-clause-full g c = λ honest is.
     (g.T.Table.free c.args.table.now) (g.T.Table.free c.note_all.new.table)
     (omega (
       arith,
-      g.met.T.Table.stays_free _ _ c.in_ok-packed.ensures.stays,
-      g.met.T.Table.stays_free _ _ c.in_ok-numbers.ensures.stays,
+      g.met.T.Table.stays_free _ _ c.in_ok-packed.ensures.read.stays,
+      g.met.T.Table.stays_free _ _ c.in_ok-numbers.ensures.read.stays,
       c.in_err-note_all.ensures.takes,
     )) none
 
 pub returns-in_err-finish-clause-full : goal.returns-in_err-finish-clause-full
 returns-in_err-finish-clause-full g c = λ honest is.
     let none = g.met.T.Table.full_free _ _
-    (full_fails _ _ c.from_residual-in_err-finish.result _ c.from_residual-in_err-finish.ensures c.in_err-finish.ensures.left is) in
+    (full_fails _ _ c.from_residual-in_err-finish.result _ c.from_residual-in_err-finish.ensures c.in_err-finish.ensures.err.left is) in
     expanding_full (g.M.GameGraph.graph c.args.source.now) (g.T.Table.stored c.args.table.now) c.in_ok-packed.packed.items c.in_ok-found.found.items
     c.counts-before.result.expanded (ap (λ (k : Counts). k.expanded) (c.counts-before.ensures ∙ g.met.T.Table.counts_are _ honest))
     (c.in_ok-packed.ensures.position honest) c.in_ok-found.ensures.exact (length c.deref-2.result.now) (ap (λ (ns : List ℕ). length ns) c.deref-2.ensures.value
@@ -555,8 +490,8 @@ returns-in_err-finish-clause-full g c = λ honest is.
     (g.T.Table.free c.args.table.now) (g.T.Table.free c.finish.new.table)
     (omega (
       arith,
-      g.met.T.Table.stays_free _ _ c.in_ok-packed.ensures.stays,
-      g.met.T.Table.stays_free _ _ c.in_ok-numbers.ensures.stays,
+      g.met.T.Table.stays_free _ _ c.in_ok-packed.ensures.read.stays,
+      g.met.T.Table.stays_free _ _ c.in_ok-numbers.ensures.read.stays,
       c.in_ok-note_all.ensures.takes,
       c.in_err-finish.ensures.takes,
     )) none
@@ -570,8 +505,63 @@ returns-clause-takes g c = λ honest.
     (g.T.Table.free c.args.table.now) (g.T.Table.free c.finish.new.table)
     (omega (
       arith,
-      g.met.T.Table.stays_free _ _ c.in_ok-packed.ensures.stays,
-      g.met.T.Table.stays_free _ _ c.in_ok-numbers.ensures.stays,
+      g.met.T.Table.stays_free _ _ c.in_ok-packed.ensures.read.stays,
+      g.met.T.Table.stays_free _ _ c.in_ok-numbers.ensures.read.stays,
       c.in_ok-note_all.ensures.takes,
       c.in_ok-finish.ensures.takes,
     ))
+
+pub returns-in_err-packed-clause-ok : goal.returns-in_err-packed-clause-ok
+returns-in_err-packed-clause-ok g c =
+    none_done _ c.from_residual.result c.from_residual.ensures.0
+
+pub returns-in_err-found-clause-ok : goal.returns-in_err-found-clause-ok
+returns-in_err-found-clause-ok g c =
+    none_done _ c.from_residual-in_err-found.result c.from_residual-in_err-found.ensures.0
+
+pub returns-in_err-numbers-clause-ok : goal.returns-in_err-numbers-clause-ok
+returns-in_err-numbers-clause-ok g c =
+    none_done _ c.from_residual-in_err-numbers.result c.from_residual-in_err-numbers.ensures.0
+
+pub returns-in_err-note_all-clause-ok : goal.returns-in_err-note_all-clause-ok
+returns-in_err-note_all-clause-ok g c =
+    none_done _ c.from_residual-in_err-note_all.result c.from_residual-in_err-note_all.ensures.0
+
+pub returns-in_err-finish-clause-ok : goal.returns-in_err-finish-clause-ok
+returns-in_err-finish-clause-ok g c =
+    none_done _ c.from_residual-in_err-finish.result c.from_residual-in_err-finish.ensures.0
+
+pub returns-then-keeper_chooses-clause-ok : goal.returns-then-keeper_chooses-clause-ok
+returns-then-keeper_chooses-clause-ok g c =
+    tt
+
+pub returns-then-numbers-gt-MAX_POSITIONS-clause-ok : goal.returns-then-numbers-gt-MAX_POSITIONS-clause-ok
+returns-then-numbers-gt-MAX_POSITIONS-clause-ok g c =
+    tt
+
+pub returns-clause-ok : goal.returns-clause-ok
+returns-clause-ok g c =
+    grown_then g.met.T.Table.goes_on_then (grown_then g.met.T.Table.goes_on_then
+    (as_grown (as_written g.met.T.Table.stays_goes_on (read_then g.met.T.Table.stays_then c.in_ok-packed.ensures.read c.in_ok-numbers.ensures.read)))
+    c.in_ok-note_all.ensures.ok) (as_grown c.in_ok-finish.ensures.ok)
+
+pub returns-in_err-numbers-clause-left : goal.returns-in_err-numbers-clause-left
+returns-in_err-numbers-clause-left g c =
+    passed_on _ c.from_residual-in_err-numbers.result _ c.from_residual-in_err-numbers.ensures
+    (given_up_since g.met.T.Table.goes_on_then g.met.T.Table.fails_since (g.met.T.Table.stays_goes_on _ _ c.in_ok-packed.ensures.read.stays)
+    c.in_err-numbers.ensures.err).left
+
+pub returns-in_err-note_all-clause-left : goal.returns-in_err-note_all-clause-left
+returns-in_err-note_all-clause-left g c =
+    passed_on _ c.from_residual-in_err-note_all.result _ c.from_residual-in_err-note_all.ensures
+    (given_up_since g.met.T.Table.goes_on_then g.met.T.Table.fails_since
+    (g.met.T.Table.stays_goes_on _ _ (g.met.T.Table.stays_then _ _ _ c.in_ok-packed.ensures.read.stays c.in_ok-numbers.ensures.read.stays))
+    c.in_err-note_all.ensures.err).left
+
+pub returns-in_err-finish-clause-left : goal.returns-in_err-finish-clause-left
+returns-in_err-finish-clause-left g c =
+    passed_on _ c.from_residual-in_err-finish.result _ c.from_residual-in_err-finish.ensures
+    (given_up_since g.met.T.Table.goes_on_then g.met.T.Table.fails_since (g.met.T.Table.goes_on_then _ _ _
+    (g.met.T.Table.stays_goes_on _ _ (g.met.T.Table.stays_then _ _ _ c.in_ok-packed.ensures.read.stays c.in_ok-numbers.ensures.read.stays))
+    c.in_ok-note_all.ensures.ok.ahead)
+    c.in_err-finish.ensures.err).left

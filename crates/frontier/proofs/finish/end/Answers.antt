@@ -2,96 +2,35 @@ use Rattle.std.proofs.Common.{◌∙◌, ap, arith, ℕ, List}
 use Rattle.retrograde.specs.Stored.{Stored}
 use Rattle.retrograde.specs.Changes.{with_settled}
 use Rattle.frontier.proofs.Passing.{passed_on}
-use Rattle.frontier.proofs.Faults.{none_done, done_consistent, no_refusal, no_conflict}
+use Rattle.frontier.proofs.Faults.{none_done, done_consistent, no_conflict}
+use Rattle.table.proofs.Frames.{written_then}
+use Rattle.frontier.proofs.Frames.{is_failed, in_conflict, given_up_since}
 use Rattle.frontier.proofs.finish.end.Goals as goal
 
 pub returns-clause-ended : goal.returns-clause-ended
 returns-clause-ended g c = λ honest.
-    c.in_ok-push_settled.ensures.pushed (c.in_ok-set_record.ensures.honest.0 honest)
+    c.in_ok-push_settled.ensures.pushed (c.in_ok-set_record.ensures.wrote.honest.0 honest)
     ∙ ap (λ (t : Stored (List ℕ)). with_settled t c.args.number) (c.in_ok-set_record.ensures.set honest)
 
 pub returns-in_err-set_record-clause-ended : goal.returns-in_err-set_record-clause-ended
 returns-in_err-set_record-clause-ended g c = λ honest. none_done _ c.from_residual.result c.from_residual.ensures.0
 
-pub returns-in_err-set_record-clause-honest : goal.returns-in_err-set_record-clause-honest
-returns-in_err-set_record-clause-honest g c = none_done _ c.from_residual.result c.from_residual.ensures.0
-
-pub returns-in_err-set_record-clause-known : goal.returns-in_err-set_record-clause-known
-returns-in_err-set_record-clause-known g c = none_done _ c.from_residual.result c.from_residual.ensures.0
-
-pub returns-in_err-set_record-clause-ahead : goal.returns-in_err-set_record-clause-ahead
-returns-in_err-set_record-clause-ahead g c = none_done _ c.from_residual.result c.from_residual.ensures.0
-
 pub returns-in_err-set_record-clause-full : goal.returns-in_err-set_record-clause-full
 returns-in_err-set_record-clause-full g c = λ honest is. absurd (no_conflict c.from_residual.result _ c.from_residual.ensures is)
-
-pub returns-in_err-set_record-clause-goes_on : goal.returns-in_err-set_record-clause-goes_on
-returns-in_err-set_record-clause-goes_on g c = no_refusal c.from_residual.result _ c.from_residual.ensures
-
-pub returns-in_err-set_record-clause-left : goal.returns-in_err-set_record-clause-left
-returns-in_err-set_record-clause-left g c = passed_on _ c.from_residual.result _ c.from_residual.ensures c.in_err-set_record.ensures.fault
 
 pub returns-in_err-push_settled-clause-ended : goal.returns-in_err-push_settled-clause-ended
 returns-in_err-push_settled-clause-ended g c =
     λ honest. none_done _ c.from_residual-in_err-push_settled.result c.from_residual-in_err-push_settled.ensures.0
 
-pub returns-in_err-push_settled-clause-honest : goal.returns-in_err-push_settled-clause-honest
-returns-in_err-push_settled-clause-honest g c = none_done _ c.from_residual-in_err-push_settled.result c.from_residual-in_err-push_settled.ensures.0
-
-pub returns-in_err-push_settled-clause-known : goal.returns-in_err-push_settled-clause-known
-returns-in_err-push_settled-clause-known g c = none_done _ c.from_residual-in_err-push_settled.result c.from_residual-in_err-push_settled.ensures.0
-
-pub returns-in_err-push_settled-clause-ahead : goal.returns-in_err-push_settled-clause-ahead
-returns-in_err-push_settled-clause-ahead g c = none_done _ c.from_residual-in_err-push_settled.result c.from_residual-in_err-push_settled.ensures.0
-
 pub returns-in_err-push_settled-clause-full : goal.returns-in_err-push_settled-clause-full
 returns-in_err-push_settled-clause-full g c =
     λ honest is. absurd (no_conflict c.from_residual-in_err-push_settled.result _ c.from_residual-in_err-push_settled.ensures is)
 
-pub returns-in_err-push_settled-clause-goes_on : goal.returns-in_err-push_settled-clause-goes_on
-returns-in_err-push_settled-clause-goes_on g c = no_refusal c.from_residual-in_err-push_settled.result _ c.from_residual-in_err-push_settled.ensures
-
-pub returns-in_err-push_settled-clause-left : goal.returns-in_err-push_settled-clause-left
-returns-in_err-push_settled-clause-left g c =
-    passed_on _ c.from_residual-in_err-push_settled.result _ c.from_residual-in_err-push_settled.ensures
-    (g.met.T.Table.fails_since _ _ _ _ c.in_ok-set_record.ensures.ahead c.in_err-push_settled.ensures.fault)
-
 pub returns-then-counts-clause-ended : goal.returns-then-counts-clause-ended
 returns-then-counts-clause-ended g c = λ honest. tt
 
-pub returns-then-counts-clause-honest : goal.returns-then-counts-clause-honest
-returns-then-counts-clause-honest g c = tt
-
-pub returns-then-counts-clause-known : goal.returns-then-counts-clause-known
-returns-then-counts-clause-known g c = tt
-
-pub returns-then-counts-clause-ahead : goal.returns-then-counts-clause-ahead
-returns-then-counts-clause-ahead g c = tt
-
-pub returns-then-counts-clause-goes_on : goal.returns-then-counts-clause-goes_on
-returns-then-counts-clause-goes_on g c = λ never. never
-
-pub returns-then-counts-clause-left : goal.returns-then-counts-clause-left
-returns-then-counts-clause-left g c = c.in_ok-set_record.ensures.ahead
-
-pub returns-clause-honest : goal.returns-clause-honest
-returns-clause-honest g c =
-    (λ h. c.in_ok-push_settled.ensures.honest.0 (c.in_ok-set_record.ensures.honest.0 h), λ h. c.in_ok-set_record.ensures.honest.1 (c.in_ok-push_settled.ensures.honest.1 h))
-
-pub returns-clause-known : goal.returns-clause-known
-returns-clause-known g c = c.in_ok-push_settled.ensures.known ∙ c.in_ok-set_record.ensures.known
-
 pub returns-clause-full : goal.returns-clause-full
 returns-clause-full g c = λ honest is. absurd (done_consistent _ is)
-
-pub returns-clause-goes_on : goal.returns-clause-goes_on
-returns-clause-goes_on g c = tt
-
-pub returns-clause-left : goal.returns-clause-left
-returns-clause-left g c = tt
-
-pub returns-clause-ahead : goal.returns-clause-ahead
-returns-clause-ahead g c = g.met.T.Table.goes_on_then _ _ _ c.in_ok-set_record.ensures.ahead c.in_ok-push_settled.ensures.ahead
 
 pub returns-in_err-set_record-clause-takes : goal.returns-in_err-set_record-clause-takes
 returns-in_err-set_record-clause-takes g c = omega (arith, c.in_err-set_record.ensures.takes)
@@ -104,3 +43,36 @@ returns-in_err-push_settled-clause-takes g c = omega (arith, c.in_ok-set_record.
 
 pub returns-clause-takes : goal.returns-clause-takes
 returns-clause-takes g c = omega (arith, c.in_ok-set_record.ensures.takes, c.in_ok-push_settled.ensures.takes)
+
+pub returns-in_err-set_record-clause-ok : goal.returns-in_err-set_record-clause-ok
+returns-in_err-set_record-clause-ok g c =
+    none_done _ c.from_residual.result c.from_residual.ensures.0
+
+pub returns-in_err-set_record-clause-err : goal.returns-in_err-set_record-clause-err
+returns-in_err-set_record-clause-err g c =
+    passed_on _ c.from_residual.result _ c.from_residual.ensures (is_failed c.in_err-set_record.ensures.fault)
+
+pub returns-in_err-push_settled-clause-ok : goal.returns-in_err-push_settled-clause-ok
+returns-in_err-push_settled-clause-ok g c =
+    none_done _ c.from_residual-in_err-push_settled.result c.from_residual-in_err-push_settled.ensures.0
+
+pub returns-in_err-push_settled-clause-err : goal.returns-in_err-push_settled-clause-err
+returns-in_err-push_settled-clause-err g c =
+    passed_on _ c.from_residual-in_err-push_settled.result _ c.from_residual-in_err-push_settled.ensures
+    (given_up_since g.met.T.Table.goes_on_then g.met.T.Table.fails_since c.in_ok-set_record.ensures.wrote.ahead (is_failed c.in_err-push_settled.ensures.fault))
+
+pub returns-then-counts-clause-ok : goal.returns-then-counts-clause-ok
+returns-then-counts-clause-ok g c =
+    tt
+
+pub returns-then-counts-clause-err : goal.returns-then-counts-clause-err
+returns-then-counts-clause-err g c =
+    in_conflict c.in_ok-set_record.ensures.wrote.ahead
+
+pub returns-clause-ok : goal.returns-clause-ok
+returns-clause-ok g c =
+    written_then g.met.T.Table.goes_on_then c.in_ok-set_record.ensures.wrote c.in_ok-push_settled.ensures.wrote
+
+pub returns-clause-err : goal.returns-clause-err
+returns-clause-err g c =
+    tt

@@ -1,18 +1,16 @@
-use Rattle.std.proofs.Common.{◌↔◌, ◌≤◌, ◌+◌, ◌*◌, ◌^◌, take, drop}
+use Rattle.std.proofs.Common.{◌≤◌, ◌+◌, ◌*◌, take, drop}
 use Rattle.std.proofs.lemmas.Cmp.{nat_list_cmp_total}
 use Rattle.table.specs.Memory.{bytes_of_each}
 use Rattle.table.specs.declared.limits.TheConstants.{PAGES_PER_ENTRY}
 use Rattle.retrograde.specs.aid.Expansion.{AreNoted}
 use Rattle.retrograde.specs.Successors.{packed_cmp}
+use Rattle.frontier.specs.Frames.{IsGrown}
 use Rattle.frontier.proofs.NumberLemmas.{IsReady}
 use Rattle.frontier.proofs.note.note_all.Given as goal
 
 abbrev pub invariant-loop-i : goal.invariant-loop-i
 invariant-loop-i g l = record {
-  known : (g.T.Table.counted l.fn.table).known ≤ (g.T.Table.counted l.table).known;
-  room : (g.T.Table.counted l.fn.table).known ≤ 2 ^ 24 → (g.T.Table.counted l.table).known ≤ 2 ^ 24;
-  honest : g.T.Table.is_honest l.fn.table ↔ g.T.Table.is_honest l.table;
-  ahead : g.T.Table.goes_on l.fn.table l.table;
+  ok : IsGrown g.T.Table.is_honest g.T.Table.counted g.T.Table.goes_on l.fn.table l.table;
   taken : g.T.Table.free l.fn.table ≤ g.T.Table.free l.table + PAGES_PER_ENTRY * (3 * l.i);
   ready : g.T.Table.is_honest l.fn.table
       → AreNoted l.predecessor (take l.i (bytes_of_each l.successors)) (g.T.Table.stored l.fn.table) (g.T.Table.stored l.table)

@@ -1,4 +1,4 @@
-use Rattle.std.proofs.Common.{◌∙◌, ◌+◌, ◌<◌, ℕ, List, Err, All, not, ap, sym, subst, refl, length, arith}
+use Rattle.std.proofs.Common.{◌∙◌, ◌+◌, ◌<◌, ℕ, List, Err, All, not, ap, sym, subst, length, arith}
 use Rattle.std.proofs.lemmas.List.{length-map, length_push, take_all}
 use Rattle.std.proofs.lemmas.List.Elements.{All-nil, All-push, All-weaker}
 use Rattle.arrayvec.specs.ArrayVec.{ArrayVec}
@@ -7,14 +7,16 @@ use Rattle.retrograde.specs.declared.records.Counts.{Counts}
 use Rattle.retrograde.specs.Stored.{Stored}
 use Rattle.frontier.specs.aid.Numbering.{AreNumbersOf}
 use Rattle.frontier.specs.declared.fault.StepFault.{StepFault}
-use Rattle.frontier.proofs.Passing.{passed_on, consistent, leaves_after}
+use Rattle.frontier.proofs.Passing.{passed_on, consistent}
+use Rattle.table.proofs.Frames.{unread, read_then}
+use Rattle.frontier.proofs.Frames.{out_of_memory, given_up_since}
 use Rattle.frontier.proofs.NumberLemmas.{IsNumberOf, numbers_push, next_after, pushed}
 use Rattle.frontier.proofs.NotedLemmas.{take_at}
 use Rattle.frontier.proofs.numbers.numbers_of.Goals as goal
 
 pub loop-position-preserved : goal.loop-position-preserved
 loop-position-preserved g c = record {
-  counts = c.in_ok-number.ensures.counts ∙ c.loop-position.invariant.counts;
+  read = read_then g.met.T.Table.stays_then c.loop-position.invariant.read c.in_ok-number.ensures.read;
   known = omega (arith, c.loop-position.invariant.known, c.max-next.ensures);
   few = omega (arith, c.loop-position.invariant.few, c.in_ok-number.ensures.within, c.max-next.ensures);
   lengths =
@@ -27,13 +29,10 @@ loop-position-preserved g c = record {
       subst (λ (ns : List ℕ). All (λ i. i < c.max-next.result) ns) (sym items)
       (All-push (λ i. i < c.max-next.result) c.loop-position.each.items c.in_ok-number.number
       (All-weaker (λ i. i < c.loop-position.next) (λ i. i < c.max-next.result) longer c.loop-position.each.items c.loop-position.invariant.within) last);
-  honest = (λ h. c.in_ok-number.ensures.honest.0 (c.loop-position.invariant.honest.0 h), λ h. c.loop-position.invariant.honest.1 (c.in_ok-number.ensures.honest.1 h));
-  stays = g.met.T.Table.stays_then _ _ _ c.loop-position.invariant.stays c.in_ok-number.ensures.stays;
-  same = λ h. c.in_ok-number.ensures.same (c.loop-position.invariant.honest.0 h) ∙ c.loop-position.invariant.same h;
   numbers = λ honest.
-      let h = c.loop-position.invariant.honest.0 honest in
+      let h = c.loop-position.invariant.read.honest.0 honest in
       let y = c.position-item.result.items in
-      let same = c.loop-position.invariant.same honest in
+      let same = c.loop-position.invariant.read.same honest in
       let is = subst (λ (t : Stored (List ℕ)). IsNumberOf t.positions c.loop-position.next y c.in_ok-number.number) same (c.in_ok-number.ensures.number h) in
       let items = pushed _ _ _ _ (c.is_err.ensures.negation ∙ ap not c.if-is_err.false) c.push.ensures.items in
       let step = take_at (λ p. p.items) c.args.positions.now c.loop-position.position-index c.position-item.result c.loop-position-test.true c.position-item.is in
@@ -46,14 +45,11 @@ loop-position-preserved g c = record {
 pub loop-position-init : goal.loop-position-init
 loop-position-init g c =
     record {
-      counts = refl;
+      read = unread g.met.T.Table.stays_here _;
       known = let count = ap (λ (k : Counts). k.known) c.counts-next.ensures in omega arith;
       few = let count = ap (λ (k : Counts). k.known) c.counts-next.ensures in omega arith;
       lengths = ap (λ (ns : List ℕ). length ns) c.new-each.ensures.items;
       within = subst (λ (ns : List ℕ). All (λ i. i < c.counts-next.result.known) ns) (sym c.new-each.ensures.items) (All-nil (λ i. i < c.counts-next.result.known));
-      honest = (λ h. h, λ h. h);
-      stays = g.met.T.Table.stays_here _;
-      same = λ h. refl;
       numbers = λ honest.
           let count = ap (λ (k : Counts). k.known) (c.counts-next.ensures ∙ g.met.T.Table.counts_are _ honest) in
           rw c.new-each.ensures.items (sym count);
@@ -61,44 +57,19 @@ loop-position-init g c =
 
 pub number_or_next-requires : goal.number_or_next-requires
 number_or_next-requires g c =
-    let count = ap (λ (k : Counts). k.known) c.loop-position.invariant.counts in omega (arith, c.loop-position.invariant.known)
+    let count = ap (λ (k : Counts). k.known) c.loop-position.invariant.read.counts in omega (arith, c.loop-position.invariant.known)
 
 pub overflow_add-number : goal.overflow_add-number
 overflow_add-number g c =
     omega (arith, c.in_ok-number.ensures.within, c.loop-position.invariant.few, c.requires.limit, c.requires.few, c.loop-position-test.true)
 
-pub returns-in_err-number-clause-goes_on : goal.returns-in_err-number-clause-goes_on
-returns-in_err-number-clause-goes_on g c =
-    passed_on _ c.from_residual.result _ c.from_residual.ensures c.in_err-number.ensures.goes_on
-
 pub returns-in_err-number-clause-consistent : goal.returns-in_err-number-clause-consistent
 returns-in_err-number-clause-consistent g c =
     consistent c.from_residual.result _ c.from_residual.ensures (λ is. c.in_err-number.ensures.consistent (ap (λ (f : StepFault). Err f) is))
 
-pub returns-in_err-number-clause-stays : goal.returns-in_err-number-clause-stays
-returns-in_err-number-clause-stays g c =
-    g.met.T.Table.stays_then _ _ _ c.loop-position.invariant.stays c.in_err-number.ensures.stays
-
-pub returns-in_err-number-clause-left : goal.returns-in_err-number-clause-left
-returns-in_err-number-clause-left g c =
-    passed_on _ c.from_residual.result _ c.from_residual.ensures
-    (leaves_after _ _ _ _ _ (g.met.T.Table.goes_on_then _ _ _ (g.met.T.Table.stays_goes_on _ _ c.loop-position.invariant.stays)) (λ fault. g.met.T.Table.fails_since _ _ _ fault (g.met.T.Table.stays_goes_on _ _ c.loop-position.invariant.stays)) c.in_err-number.ensures.left)
-
-pub returns-then-is_err-clause-goes_on : goal.returns-then-is_err-clause-goes_on
-returns-then-is_err-clause-goes_on g c =
-    λ refused. refused
-
 pub returns-then-is_err-clause-consistent : goal.returns-then-is_err-clause-consistent
 returns-then-is_err-clause-consistent g c =
     λ is. cc
-
-pub returns-then-is_err-clause-stays : goal.returns-then-is_err-clause-stays
-returns-then-is_err-clause-stays g c =
-    g.met.T.Table.stays_then _ _ _ c.loop-position.invariant.stays c.in_ok-number.ensures.stays
-
-pub returns-then-is_err-clause-left : goal.returns-then-is_err-clause-left
-returns-then-is_err-clause-left g c =
-    g.met.T.Table.stays_goes_on _ _ (g.met.T.Table.stays_then _ _ _ c.loop-position.invariant.stays c.in_ok-number.ensures.stays)
 
 pub returns-clause-numbers : goal.returns-clause-numbers
 returns-clause-numbers g c =
@@ -120,18 +91,23 @@ pub returns-clause-next : goal.returns-clause-next
 returns-clause-next g c =
     c.loop-position.invariant.known
 
-pub returns-clause-same : goal.returns-clause-same
-returns-clause-same g c =
-    c.loop-position.invariant.same
+pub returns-in_err-number-clause-read : goal.returns-in_err-number-clause-read
+returns-in_err-number-clause-read g c =
+    read_then g.met.T.Table.stays_then c.loop-position.invariant.read c.in_err-number.ensures.read
 
-pub returns-clause-honest : goal.returns-clause-honest
-returns-clause-honest g c =
-    c.loop-position.invariant.honest
+pub returns-in_err-number-clause-err : goal.returns-in_err-number-clause-err
+returns-in_err-number-clause-err g c =
+    passed_on _ c.from_residual.result _ c.from_residual.ensures
+    (given_up_since g.met.T.Table.goes_on_then g.met.T.Table.fails_since (g.met.T.Table.stays_goes_on _ _ c.loop-position.invariant.read.stays) c.in_err-number.ensures.err)
 
-pub returns-clause-counts : goal.returns-clause-counts
-returns-clause-counts g c =
-    c.loop-position.invariant.counts
+pub returns-then-is_err-clause-read : goal.returns-then-is_err-clause-read
+returns-then-is_err-clause-read g c =
+    read_then g.met.T.Table.stays_then c.loop-position.invariant.read c.in_ok-number.ensures.read
 
-pub returns-clause-stays : goal.returns-clause-stays
-returns-clause-stays g c =
-    c.loop-position.invariant.stays
+pub returns-then-is_err-clause-err : goal.returns-then-is_err-clause-err
+returns-then-is_err-clause-err g c =
+    out_of_memory (g.met.T.Table.stays_goes_on _ _ (read_then g.met.T.Table.stays_then c.loop-position.invariant.read c.in_ok-number.ensures.read).stays)
+
+pub returns-clause-read : goal.returns-clause-read
+returns-clause-read g c =
+    c.loop-position.invariant.read

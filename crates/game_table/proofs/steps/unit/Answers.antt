@@ -1,5 +1,7 @@
 use Rattle.std.proofs.Common.{◌≡◌, ◌∙◌, ap, length, arith, Err}
 use Rattle.frontier.specs.declared.fault.StepFault.{StepFault}
+use Rattle.table.proofs.Frames.{unread, as_written}
+use Rattle.frontier.proofs.Frames.{as_grown}
 use Rattle.game_table.proofs.WorkLemmas.{fault_was, on_refusal, unlike_is_unfinished, unprocessed_is_unfinished}
 use Rattle.retrograde.specs.declared.records.Counts.{Counts}
 use Rattle.retrograde.specs.Stored.{expanded_count}
@@ -48,3 +50,15 @@ pub returns-in_err-settle_one-clause-full : goal.returns-in_err-settle_one-claus
 returns-in_err-settle_one-clause-full g c = λ honest is.
     c.in_err-settle_one.ensures.full honest
     (ap (λ (f : StepFault). Err f) (fault_was c.from_residual-in_err-settle_one.result _ _ c.from_residual-in_err-settle_one.ensures is))
+
+pub returns-then-counts-clause-ok : goal.returns-then-counts-clause-ok
+returns-then-counts-clause-ok g c =
+    c.in_ok-expand_one.ensures.ok
+
+pub returns-then-counts-3-clause-ok : goal.returns-then-counts-3-clause-ok
+returns-then-counts-3-clause-ok g c =
+    as_grown c.in_ok-settle_one.ensures.ok
+
+pub returns-clause-ok : goal.returns-clause-ok
+returns-clause-ok g c =
+    as_grown (as_written g.met.T.Table.stays_goes_on (unread {stored = g.T.Table.stored} g.met.T.Table.stays_here _))

@@ -1,6 +1,7 @@
-use Rattle.std.proofs.Common.{◌≡◌, ◌↔◌, ◌+◌, ◌*◌, ◌^◌, ◌≤◌, ℕ}
+use Rattle.std.proofs.Common.{◌≡◌, ◌+◌, ◌*◌, ◌≤◌, ℕ}
 use Rattle.retrograde.specs.Stored.{IsTable}
 use Rattle.retrograde.specs.Sound.{IsLocallySound}
+use Rattle.frontier.specs.Frames.{IsGrown}
 use Rattle.table.specs.declared.limits.TheConstants.{PAGES_PER_ENTRY}
 use Rattle.game_table.specs.Entries.{WriteAtMost}
 use Rattle.game_table.specs.Units.{AreUnits}
@@ -9,9 +10,7 @@ use Rattle.game_table.proofs.steps.work.Given as goal
 
 abbrev pub invariant-loop-done : goal.invariant-loop-done
 invariant-loop-done g l = record {
-  limit : (g.T.Table.counted l.table).known ≤ 2 ^ 24;
-  honest : g.T.Table.is_honest l.fn.table ↔ g.T.Table.is_honest l.table;
-  ahead : g.T.Table.goes_on l.fn.table l.table;
+  ok : IsGrown g.T.Table.is_honest g.T.Table.counted g.T.Table.goes_on l.fn.table l.table;
   source : l.source ≡ l.fn.source;
   sound : g.T.Table.is_honest l.fn.table → IsLocallySound (g.M.GameGraph.graph l.fn.source) (g.M.GameGraph.is_wide l.fn.source) (g.T.Table.stored l.fn.table)
       → IsLocallySound (g.M.GameGraph.graph l.fn.source) (g.M.GameGraph.is_wide l.fn.source) (g.T.Table.stored l.table);

@@ -1,8 +1,8 @@
 use Rattle.std.proofs.Common.{◌≡◌, ◌+◌, ◌*◌, ◌-◌, ◌≤◌}
 use Rattle.retrograde.specs.aid.Processing.{lowered_below}
+use Rattle.table.specs.Frames.{IsWritten}
 use Rattle.table.specs.declared.limits.TheConstants.{PAGES_PER_ENTRY}
 use Rattle.frontier.specs.Entries.{edges_below}
-use Rattle.frontier.specs.Frames.{IsWritten}
 use Rattle.settle.proofs.Bounds.{bound_of}
 use Rattle.settle.proofs.lower.lower_all.Given as goal
 

@@ -3,7 +3,8 @@ use Rattle.retrograde.specs.Stored.{Stored}
 use Rattle.retrograde.specs.Changes.{with_record}
 use Rattle.frontier.proofs.Passing.{passed_on}
 use Rattle.frontier.proofs.Faults.{none_done, no_conflict, done_consistent}
-use Rattle.frontier.proofs.Frames.{written_then, is_failed, in_conflict, given_up_since}
+use Rattle.table.proofs.Frames.{written_then}
+use Rattle.frontier.proofs.Frames.{is_failed, in_conflict, given_up_since}
 use Rattle.settle.proofs.lower.settle.Goals as goal
 
 pub returns-then-counts-clause-settled : goal.returns-then-counts-clause-settled
@@ -25,7 +26,7 @@ returns-in_err-set_record-clause-full g c =
 
 pub returns-clause-settled : goal.returns-clause-settled
 returns-clause-settled g c = λ honest.
-    c.in_ok-set_record.ensures.set (c.in_ok-push_settled.ensures.honest.0 honest)
+    c.in_ok-set_record.ensures.set (c.in_ok-push_settled.ensures.wrote.honest.0 honest)
     ∙ ap (λ (t : Stored (List ℕ)). with_record t c.args.number c.args.kept) (c.in_ok-push_settled.ensures.pushed honest)
 
 pub returns-clause-full : goal.returns-clause-full
@@ -62,13 +63,13 @@ returns-in_err-set_record-clause-ok g c = none_done _ c.from_residual-in_err-set
 pub returns-in_err-set_record-clause-err : goal.returns-in_err-set_record-clause-err
 returns-in_err-set_record-clause-err g c =
     passed_on _ c.from_residual-in_err-set_record.result _ c.from_residual-in_err-set_record.ensures
-    (given_up_since g.met.T.Table.goes_on_then g.met.T.Table.fails_since c.in_ok-push_settled.ensures.ahead (is_failed c.in_err-set_record.ensures.fault))
+    (given_up_since g.met.T.Table.goes_on_then g.met.T.Table.fails_since c.in_ok-push_settled.ensures.wrote.ahead (is_failed c.in_err-set_record.ensures.fault))
 
 pub returns-clause-ok : goal.returns-clause-ok
 returns-clause-ok g c =
     written_then g.met.T.Table.goes_on_then
-    (record { honest = c.in_ok-push_settled.ensures.honest; known = c.in_ok-push_settled.ensures.known; ahead = c.in_ok-push_settled.ensures.ahead })
-    (record { honest = c.in_ok-set_record.ensures.honest; known = c.in_ok-set_record.ensures.known; ahead = c.in_ok-set_record.ensures.ahead })
+    c.in_ok-push_settled.ensures.wrote
+    c.in_ok-set_record.ensures.wrote
 
 pub returns-clause-err : goal.returns-clause-err
 returns-clause-err g c = tt

@@ -3,7 +3,8 @@ use Rattle.retrograde.specs.declared.records.Counts.{Counts}
 use Rattle.settle.proofs.SettleLemmas.{settled_known}
 use Rattle.frontier.proofs.Passing.{passed_on}
 use Rattle.frontier.proofs.Faults.{none_done, none_answered, no_conflict, done_consistent}
-use Rattle.frontier.proofs.Frames.{is_read, written_then, is_failed, in_conflict, given_up_since}
+use Rattle.table.proofs.Frames.{read_then, as_written, written_then}
+use Rattle.frontier.proofs.Frames.{is_failed, in_conflict, given_up_since}
 use Rattle.frontier.proofs.Pages.{never_full, conflict_full, done_full}
 use Rattle.settle.proofs.next.process_next.Goals as goal
 
@@ -60,25 +61,25 @@ pub returns-clause-consistent : goal.returns-clause-consistent
 returns-clause-consistent g c = λ honest table is. done_consistent _ is
 
 pub returns-in_err-number-clause-takes : goal.returns-in_err-number-clause-takes
-returns-in_err-number-clause-takes g c = omega (arith, g.met.T.Table.stays_free _ _ c.in_err-number.ensures.stays)
+returns-in_err-number-clause-takes g c = omega (arith, g.met.T.Table.stays_free _ _ c.in_err-number.ensures.read.stays)
 
 pub returns-then-number-counts-clause-takes : goal.returns-then-number-counts-clause-takes
-returns-then-number-counts-clause-takes g c = omega (arith, g.met.T.Table.stays_free _ _ c.in_ok-number.ensures.stays)
+returns-then-number-counts-clause-takes g c = omega (arith, g.met.T.Table.stays_free _ _ c.in_ok-number.ensures.read.stays)
 
 pub returns-in_err-kept-clause-takes : goal.returns-in_err-kept-clause-takes
 returns-in_err-kept-clause-takes g c =
-    omega (arith, g.met.T.Table.stays_free _ _ c.in_ok-number.ensures.stays, g.met.T.Table.stays_free _ _ c.in_err-kept.ensures.stays)
+    omega (arith, g.met.T.Table.stays_free _ _ c.in_ok-number.ensures.read.stays, g.met.T.Table.stays_free _ _ c.in_err-kept.ensures.read.stays)
 
 pub returns-in_default-clause-takes : goal.returns-in_default-clause-takes
 returns-in_default-clause-takes g c =
-    omega (arith, g.met.T.Table.stays_free _ _ c.in_ok-number.ensures.stays, g.met.T.Table.stays_free _ _ c.in_ok-kept.ensures.stays)
+    omega (arith, g.met.T.Table.stays_free _ _ c.in_ok-number.ensures.read.stays, g.met.T.Table.stays_free _ _ c.in_ok-kept.ensures.read.stays)
 
 pub returns-in_err-set_record-clause-takes : goal.returns-in_err-set_record-clause-takes
 returns-in_err-set_record-clause-takes g c =
     omega (
       arith,
-      g.met.T.Table.stays_free _ _ c.in_ok-number.ensures.stays,
-      g.met.T.Table.stays_free _ _ c.in_ok-kept.ensures.stays,
+      g.met.T.Table.stays_free _ _ c.in_ok-number.ensures.read.stays,
+      g.met.T.Table.stays_free _ _ c.in_ok-kept.ensures.read.stays,
       c.in_err-set_record.ensures.takes,
     )
 
@@ -86,8 +87,8 @@ pub returns-clause-takes : goal.returns-clause-takes
 returns-clause-takes g c =
     omega (
       arith,
-      g.met.T.Table.stays_free _ _ c.in_ok-number.ensures.stays,
-      g.met.T.Table.stays_free _ _ c.in_ok-kept.ensures.stays,
+      g.met.T.Table.stays_free _ _ c.in_ok-number.ensures.read.stays,
+      g.met.T.Table.stays_free _ _ c.in_ok-kept.ensures.read.stays,
       c.in_ok-set_record.ensures.takes,
     )
 
@@ -126,7 +127,7 @@ pub returns-then-number-counts-clause-ok : goal.returns-then-number-counts-claus
 returns-then-number-counts-clause-ok g c = tt
 
 pub returns-then-number-counts-clause-err : goal.returns-then-number-counts-clause-err
-returns-then-number-counts-clause-err g c = in_conflict (g.met.T.Table.stays_goes_on _ _ c.in_ok-number.ensures.stays)
+returns-then-number-counts-clause-err g c = in_conflict (g.met.T.Table.stays_goes_on _ _ c.in_ok-number.ensures.read.stays)
 
 pub returns-in_err-kept-clause-ok : goal.returns-in_err-kept-clause-ok
 returns-in_err-kept-clause-ok g c = none_done _ c.from_residual-in_err-kept.result c.from_residual-in_err-kept.ensures.0
@@ -134,7 +135,7 @@ returns-in_err-kept-clause-ok g c = none_done _ c.from_residual-in_err-kept.resu
 pub returns-in_err-kept-clause-err : goal.returns-in_err-kept-clause-err
 returns-in_err-kept-clause-err g c =
     passed_on _ c.from_residual-in_err-kept.result _ c.from_residual-in_err-kept.ensures
-    (given_up_since g.met.T.Table.goes_on_then g.met.T.Table.fails_since (g.met.T.Table.stays_goes_on _ _ c.in_ok-number.ensures.stays)
+    (given_up_since g.met.T.Table.goes_on_then g.met.T.Table.fails_since (g.met.T.Table.stays_goes_on _ _ c.in_ok-number.ensures.read.stays)
     (is_failed c.in_err-kept.ensures.fault))
 
 pub returns-in_default-clause-ok : goal.returns-in_default-clause-ok
@@ -142,7 +143,7 @@ returns-in_default-clause-ok g c = tt
 
 pub returns-in_default-clause-err : goal.returns-in_default-clause-err
 returns-in_default-clause-err g c =
-    in_conflict (g.met.T.Table.stays_goes_on _ _ (g.met.T.Table.stays_then _ _ _ c.in_ok-number.ensures.stays c.in_ok-kept.ensures.stays))
+    in_conflict (g.met.T.Table.stays_goes_on _ _ (g.met.T.Table.stays_then _ _ _ c.in_ok-number.ensures.read.stays c.in_ok-kept.ensures.read.stays))
 
 pub returns-in_err-set_record-clause-ok : goal.returns-in_err-set_record-clause-ok
 returns-in_err-set_record-clause-ok g c = none_done _ c.from_residual-in_err-set_record.result c.from_residual-in_err-set_record.ensures.0
@@ -151,15 +152,14 @@ pub returns-in_err-set_record-clause-err : goal.returns-in_err-set_record-clause
 returns-in_err-set_record-clause-err g c =
     passed_on _ c.from_residual-in_err-set_record.result _ c.from_residual-in_err-set_record.ensures
     (given_up_since g.met.T.Table.goes_on_then g.met.T.Table.fails_since
-    (g.met.T.Table.stays_goes_on _ _ (g.met.T.Table.stays_then _ _ _ c.in_ok-number.ensures.stays c.in_ok-kept.ensures.stays))
+    (g.met.T.Table.stays_goes_on _ _ (g.met.T.Table.stays_then _ _ _ c.in_ok-number.ensures.read.stays c.in_ok-kept.ensures.read.stays))
     (is_failed c.in_err-set_record.ensures.fault))
 
 pub returns-clause-ok : goal.returns-clause-ok
 returns-clause-ok g c =
-    written_then g.met.T.Table.goes_on_then (written_then g.met.T.Table.goes_on_then
-    (is_read c.in_ok-number.ensures.honest c.in_ok-number.ensures.counts (g.met.T.Table.stays_goes_on _ _ c.in_ok-number.ensures.stays))
-    (is_read c.in_ok-kept.ensures.honest c.in_ok-kept.ensures.counts (g.met.T.Table.stays_goes_on _ _ c.in_ok-kept.ensures.stays)))
-    (record { honest = c.in_ok-set_record.ensures.honest; known = c.in_ok-set_record.ensures.known; ahead = c.in_ok-set_record.ensures.ahead })
+    written_then g.met.T.Table.goes_on_then (as_written g.met.T.Table.stays_goes_on
+    (read_then g.met.T.Table.stays_then c.in_ok-number.ensures.read c.in_ok-kept.ensures.read))
+    c.in_ok-set_record.ensures.wrote
 
 pub returns-clause-err : goal.returns-clause-err
 returns-clause-err g c = tt

@@ -5,7 +5,8 @@ use Rattle.retrograde.specs.Sound.{IsLocallySound}
 use Rattle.settle.proofs.SettleLemmas.{IsDone, done_from, fits_from, never_stuck_from}
 use Rattle.frontier.specs.declared.fault.StepFault.{StepFault}
 use Rattle.frontier.proofs.Passing.{passed_on, fault_is}
-use Rattle.frontier.proofs.Frames.{written_then, in_conflict, given_up_since}
+use Rattle.table.proofs.Frames.{written_then}
+use Rattle.frontier.proofs.Frames.{in_conflict, given_up_since}
 use Rattle.frontier.proofs.Faults.{none_done, none_answered, done_consistent}
 use Rattle.frontier.proofs.Pages.{fault_full, full_fails, conflict_full, done_full}
 use Rattle.settle.proofs.Pages.{marking_full, processing_takes, processing_full}

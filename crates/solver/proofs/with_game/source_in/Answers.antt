@@ -85,10 +85,10 @@ pub returns-in-Err-clause-cause : goal.returns-in-Err-clause-cause
 returns-in-Err-clause-cause g c = search rules
 
 pub returns-in_err-are_positions-clause-whole : goal.returns-in_err-are_positions-clause-whole
-returns-in_err-are_positions-clause-whole g c = λ whole. (g.met.F.GameFile.whole_stays c.args.file.now c.are_positions.new.table whole c.are_positions.ensures.stays).0
+returns-in_err-are_positions-clause-whole g c = λ whole. (g.met.F.GameFile.whole_stays c.args.file.now c.are_positions.new.table whole c.are_positions.ensures.read.stays).0
 
 pub returns-in_err-are_positions-clause-asked : goal.returns-in_err-are_positions-clause-asked
-returns-in_err-are_positions-clause-asked g c = λ whole. (g.met.F.GameFile.whole_stays c.args.file.now c.are_positions.new.table whole c.are_positions.ensures.stays).1
+returns-in_err-are_positions-clause-asked g c = λ whole. (g.met.F.GameFile.whole_stays c.args.file.now c.are_positions.new.table whole c.are_positions.ensures.read.stays).1
 
 pub returns-in_err-are_positions-clause-source : goal.returns-in_err-are_positions-clause-source
 returns-in_err-are_positions-clause-source g c = λ whole. gives_none c.from_residual.result _ _ c.from_residual.ensures
@@ -97,10 +97,10 @@ pub returns-in_err-are_positions-clause-of_a_game : goal.returns-in_err-are_posi
 returns-in_err-are_positions-clause-of_a_game g c = λ whole honest. gives_none c.from_residual.result _ _ c.from_residual.ensures
 
 pub returns-then-not-branch-clause-whole : goal.returns-then-not-branch-clause-whole
-returns-then-not-branch-clause-whole g c = λ whole. (g.met.F.GameFile.whole_stays c.args.file.now c.are_positions.new.table whole c.are_positions.ensures.stays).0
+returns-then-not-branch-clause-whole g c = λ whole. (g.met.F.GameFile.whole_stays c.args.file.now c.are_positions.new.table whole c.are_positions.ensures.read.stays).0
 
 pub returns-then-not-branch-clause-asked : goal.returns-then-not-branch-clause-asked
-returns-then-not-branch-clause-asked g c = λ whole. (g.met.F.GameFile.whole_stays c.args.file.now c.are_positions.new.table whole c.are_positions.ensures.stays).1
+returns-then-not-branch-clause-asked g c = λ whole. (g.met.F.GameFile.whole_stays c.args.file.now c.are_positions.new.table whole c.are_positions.ensures.read.stays).1
 
 pub returns-then-not-branch-clause-source : goal.returns-then-not-branch-clause-source
 returns-then-not-branch-clause-source g c = λ whole. tt
@@ -109,10 +109,10 @@ pub returns-then-not-branch-clause-of_a_game : goal.returns-then-not-branch-clau
 returns-then-not-branch-clause-of_a_game g c = λ whole honest. tt
 
 pub returns-clause-whole : goal.returns-clause-whole
-returns-clause-whole g c = λ whole. (g.met.F.GameFile.whole_stays c.args.file.now c.are_positions.new.table whole c.are_positions.ensures.stays).0
+returns-clause-whole g c = λ whole. (g.met.F.GameFile.whole_stays c.args.file.now c.are_positions.new.table whole c.are_positions.ensures.read.stays).0
 
 pub returns-clause-asked : goal.returns-clause-asked
-returns-clause-asked g c = λ whole. (g.met.F.GameFile.whole_stays c.args.file.now c.are_positions.new.table whole c.are_positions.ensures.stays).1
+returns-clause-asked g c = λ whole. (g.met.F.GameFile.whole_stays c.args.file.now c.are_positions.new.table whole c.are_positions.ensures.read.stays).1
 
 pub returns-in_err-are_positions-clause-cause : goal.returns-in_err-are_positions-clause-cause
 returns-in_err-are_positions-clause-cause g c = λ whole.
@@ -124,7 +124,7 @@ returns-in_err-are_positions-clause-cause g c = λ whole.
 pub returns-clause-source : goal.returns-clause-source
 returns-clause-source g c = λ whole.
     let file = c.args.file.now in
-    let asked = g.met.F.GameFile.whole_stays c.args.file.now c.are_positions.new.table whole c.are_positions.ensures.stays in
+    let asked = g.met.F.GameFile.whole_stays c.args.file.now c.are_positions.new.table whole c.are_positions.ensures.read.stays in
     source_of_text c.in-Ok.source (g.F.GameFile.state c.are_positions.new.table).kept c.in-Some.text.now c.in-Some-packing.kind (points_of c.goal-goal.result)
     (asked.1.text ∙ c.in-Some.ensures.some) (asked.1.packing ∙ c.in-Some-packing.ensures.some) (asked.1.goal ∙ sym c.goal-goal.ensures) c.in-Ok.ensures.reads c.in-Ok.ensures.packing c.in-Ok.ensures.goal
 

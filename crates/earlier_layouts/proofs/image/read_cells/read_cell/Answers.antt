@@ -10,7 +10,7 @@ use Rattle.earlier_layouts.proofs.image.read_cells.read_cell.Goals as goal
 
 pub returns-clause-added : goal.returns-clause-added
 returns-clause-added g c =
-    let honest = c.in_ok-number_of.ensures.honest.0 c.requires.honest in
+    let honest = c.in_ok-number_of.ensures.read.honest.0 c.requires.honest in
     let known = ap (λ (k : Counts). k.known) (g.met.T.Table.counts_are c.number_of.new.self honest) in
     record {
       cell = (c.position_of-position.result.items, c.in_ok-kept.kept);
@@ -25,7 +25,7 @@ returns-clause-added g c =
       };
       added =
           cell_added (g.T.Table.stored c.args.table.now) (g.T.Table.stored c.number_of.new.self) (g.T.Table.stored c.add.new.self) (g.T.Table.stored c.set_record.new.self)
-          c.position_of-position.result.items c.in_ok-kept.kept c.in_ok-number.number (c.in_ok-number_of.ensures.same c.requires.honest)
+          c.position_of-position.result.items c.in_ok-kept.kept c.in_ok-number.number (c.in_ok-number_of.ensures.read.same c.requires.honest)
           (c.in_ok-number.ensures.added honest) (c.in_ok-set_record.ensures.set (c.in_ok-number.ensures.honest.0 honest)) (c.in_ok-number.ensures.number ∙ known);
     }
 
@@ -70,7 +70,7 @@ returns-then-is_some-clause-added g c = tt
 
 pub returns-clause-honest : goal.returns-clause-honest
 returns-clause-honest g c =
-    c.in_ok-set_record.ensures.honest.0 (c.in_ok-number.ensures.honest.0 (c.in_ok-number_of.ensures.honest.0 c.requires.honest))
+    c.in_ok-set_record.ensures.wrote.honest.0 (c.in_ok-number.ensures.honest.0 (c.in_ok-number_of.ensures.read.honest.0 c.requires.honest))
 
 pub returns-clause-damaged : goal.returns-clause-damaged
 returns-clause-damaged g c = λ is. absurd (done_whole _ is)
@@ -80,7 +80,7 @@ position_of-position-requires g c = at_most _ _ _ c.split_at.ensures.front_len c
 
 pub add-requires-clause-room : goal.add-requires-clause-room
 add-requires-clause-room g c =
-    let counts = ap (λ (k : Counts). k.known) (c.in_ok-number_of.ensures.counts ∙ g.met.T.Table.counts_are c.args.table.now c.requires.honest) in
+    let counts = ap (λ (k : Counts). k.known) (c.in_ok-number_of.ensures.read.counts ∙ g.met.T.Table.counts_are c.args.table.now c.requires.honest) in
     subst (λ (n : ℕ). n < 2 ^ 24) (sym counts) c.requires.room
 
 pub set_record-requires : goal.set_record-requires
@@ -109,4 +109,4 @@ pub add-requires-clause-unknown : goal.add-requires-clause-unknown
 add-requires-clause-unknown g c = λ h i at.
     unknown_still c.in_ok-number_of.field-0 c.is_some.result (g.T.Table.stored c.args.table.now).positions c.position_of-position.result.items c.is_some.ensures c.if-is_some.false
     (c.in_ok-number_of.ensures.unknown c.requires.honest) i
-    (subst (λ (s : Stored (List ℕ)). slice_get s.positions i ≡ Some c.position_of-position.result.items) (c.in_ok-number_of.ensures.same c.requires.honest) at)
+    (subst (λ (s : Stored (List ℕ)). slice_get s.positions i ≡ Some c.position_of-position.result.items) (c.in_ok-number_of.ensures.read.same c.requires.honest) at)

@@ -10,7 +10,7 @@ loop-place-preserved g c =
     let before = c.loop-place.invariant in
     let front = c.split_at.result.0.now in
     record {
-      honest = c.in_ok-push_settled.ensures.honest.0 before.honest;
+      honest = c.in_ok-push_settled.ensures.wrote.honest.0 before.honest;
       long = omega (arith, c.loop-place.invariant.long, c.split_at.ensures.back_len);
       done = before.done ++ front;
       split = split_on c.args.bytes.now before.done c.loop-place.rest.now front c.split_at.result.1.now 4 before.split c.split_at.ensures.front c.split_at.ensures.back;

@@ -1,6 +1,6 @@
 use Rattle.std.proofs.Common.{◌≡◌, ◌∙◌, sym, ap, subst}
 use Rattle.rbg_game.specs.Meaning.{game_of}
-use Rattle.position_pack.specs.Packings.{Form, form_of, IsPacked}
+use Rattle.position_pack.specs.Packings.{form_of, IsPacked}
 use Rattle.position_pack.specs.Texts.{text_of}
 use Rattle.legal_moves.specs.Compiled.{compiled_game, packing_kind}
 use Rattle.game_table.proofs.Showing.{shown, packed_as}

@@ -1,7 +1,5 @@
 use Rattle.std.proofs.Common.{◌≡◌, ℕ, refl}
 use Rattle.solver.specs.declared.fault.SolverFault.{SolverFault}
-use Rattle.solver.specs.declared.fault.SolverFault.TheVariants.{TableFull}
-use Rattle.solver.specs.declared.replies.Reply.{Reply}
 use Rattle.solver.specs.declared.replies.Reply.TheVariants.{Loaded, Worked, Refused}
 use Rattle.retrograde.specs.declared.records.Counts.{Counts}
 use Rattle.solver.proofs.Turning.{done_turn, refused_turn}

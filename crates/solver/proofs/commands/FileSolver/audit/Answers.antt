@@ -65,11 +65,11 @@ audit-requires g c = search rules
 
 pub returns-in_err-audit-clause-ready : goal.returns-in_err-audit-clause-ready
 returns-in_err-audit-clause-ready g c = λ ready.
-    let asked = g.met.F.GameFile.whole_stays c.args.self.now.file c.audit.new.table ready.0 c.audit.ensures.stays in
+    let asked = g.met.F.GameFile.whole_stays c.args.self.now.file c.audit.new.table ready.0 c.audit.ensures.read.stays in
     (asked.0, same_source _ _ _ asked.1.text asked.1.packing asked.1.goal ready.1)
 
 pub returns-in_err-audit-clause-asked : goal.returns-in_err-audit-clause-asked
-returns-in_err-audit-clause-asked g c = λ ready. (g.met.F.GameFile.whole_stays c.args.self.now.file c.audit.new.table ready.0 c.audit.ensures.stays).1
+returns-in_err-audit-clause-asked g c = λ ready. (g.met.F.GameFile.whole_stays c.args.self.now.file c.audit.new.table ready.0 c.audit.ensures.read.stays).1
 
 pub returns-in_err-audit-clause-verdict : goal.returns-in_err-audit-clause-verdict
 returns-in_err-audit-clause-verdict g c = λ ready. gives_none c.from_residual-in_err-audit.result _ _ c.from_residual-in_err-audit.ensures
@@ -82,11 +82,11 @@ returns-in_err-audit-clause-closed g c = λ is. absurd (not_refused _ _ (c.in_ok
 
 pub returns-clause-ready : goal.returns-clause-ready
 returns-clause-ready g c = λ ready.
-    let asked = g.met.F.GameFile.whole_stays c.args.self.now.file c.audit.new.table ready.0 c.audit.ensures.stays in
+    let asked = g.met.F.GameFile.whole_stays c.args.self.now.file c.audit.new.table ready.0 c.audit.ensures.read.stays in
     (asked.0, same_source _ _ _ asked.1.text asked.1.packing asked.1.goal ready.1)
 
 pub returns-clause-asked : goal.returns-clause-asked
-returns-clause-asked g c = λ ready. (g.met.F.GameFile.whole_stays c.args.self.now.file c.audit.new.table ready.0 c.audit.ensures.stays).1
+returns-clause-asked g c = λ ready. (g.met.F.GameFile.whole_stays c.args.self.now.file c.audit.new.table ready.0 c.audit.ensures.read.stays).1
 
 pub returns-clause-closed : goal.returns-clause-closed
 returns-clause-closed g c = λ is. absurd (not_refused _ _ (c.in_ok-source.ensures.closed is))
@@ -98,10 +98,10 @@ pub returns-in_err-source-clause-lasts : goal.returns-in_err-source-clause-lasts
 returns-in_err-source-clause-lasts g c = g.met.F.GameFile.goes_on_lasts c.args.self.now.file c.args.self.now.file (g.met.F.Table.stays_goes_on c.args.self.now.file c.args.self.now.file (g.met.F.Table.stays_here c.args.self.now.file))
 
 pub returns-in_err-audit-clause-lasts : goal.returns-in_err-audit-clause-lasts
-returns-in_err-audit-clause-lasts g c = g.met.F.GameFile.goes_on_lasts c.args.self.now.file c.audit.new.table (g.met.F.Table.stays_goes_on c.args.self.now.file c.audit.new.table c.audit.ensures.stays)
+returns-in_err-audit-clause-lasts g c = g.met.F.GameFile.goes_on_lasts c.args.self.now.file c.audit.new.table (g.met.F.Table.stays_goes_on c.args.self.now.file c.audit.new.table c.audit.ensures.read.stays)
 
 pub returns-clause-lasts : goal.returns-clause-lasts
-returns-clause-lasts g c = g.met.F.GameFile.goes_on_lasts c.args.self.now.file c.audit.new.table (g.met.F.Table.stays_goes_on c.args.self.now.file c.audit.new.table c.audit.ensures.stays)
+returns-clause-lasts g c = g.met.F.GameFile.goes_on_lasts c.args.self.now.file c.audit.new.table (g.met.F.Table.stays_goes_on c.args.self.now.file c.audit.new.table c.audit.ensures.read.stays)
 
 pub returns-in_err-source-clause-no_game : goal.returns-in_err-source-clause-no_game
 returns-in_err-source-clause-no_game g c = λ is_open none. (passed_as c.from_residual.result _ _ c.from_residual.ensures (c.in_err-source.ensures.no_game is_open none), refl)

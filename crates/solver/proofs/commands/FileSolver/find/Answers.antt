@@ -63,11 +63,11 @@ returns-in_default-clause-closed g c = λ is. absurd (not_refused _ _ (c.in_ok-s
 
 pub returns-in_err-number-clause-ready : goal.returns-in_err-number-clause-ready
 returns-in_err-number-clause-ready g c = λ ready.
-    let asked = g.met.F.GameFile.whole_stays c.args.self.now.file c.number_of.new.self ready.0 c.number_of.ensures.stays in
+    let asked = g.met.F.GameFile.whole_stays c.args.self.now.file c.number_of.new.self ready.0 c.number_of.ensures.read.stays in
     (asked.0, same_source _ _ _ asked.1.text asked.1.packing asked.1.goal ready.1)
 
 pub returns-in_err-number-clause-asked : goal.returns-in_err-number-clause-asked
-returns-in_err-number-clause-asked g c = λ ready. (g.met.F.GameFile.whole_stays c.args.self.now.file c.number_of.new.self ready.0 c.number_of.ensures.stays).1
+returns-in_err-number-clause-asked g c = λ ready. (g.met.F.GameFile.whole_stays c.args.self.now.file c.number_of.new.self ready.0 c.number_of.ensures.read.stays).1
 
 pub returns-in_err-number-clause-number : goal.returns-in_err-number-clause-number
 returns-in_err-number-clause-number g c = λ ready. gives_none c.from_residual-in_err-number.result _ _ c.from_residual-in_err-number.ensures
@@ -84,22 +84,22 @@ returns-in_err-number-clause-closed g c = λ is. absurd (not_refused _ _ (c.in_o
 
 pub returns-in-Some-2-clause-ready : goal.returns-in-Some-2-clause-ready
 returns-in-Some-2-clause-ready g c = λ ready.
-    let asked = g.met.F.GameFile.whole_stays c.args.self.now.file c.number_of.new.self ready.0 c.number_of.ensures.stays in
+    let asked = g.met.F.GameFile.whole_stays c.args.self.now.file c.number_of.new.self ready.0 c.number_of.ensures.read.stays in
     (asked.0, same_source _ _ _ asked.1.text asked.1.packing asked.1.goal ready.1)
 
 pub returns-in-Some-2-clause-asked : goal.returns-in-Some-2-clause-asked
-returns-in-Some-2-clause-asked g c = λ ready. (g.met.F.GameFile.whole_stays c.args.self.now.file c.number_of.new.self ready.0 c.number_of.ensures.stays).1
+returns-in-Some-2-clause-asked g c = λ ready. (g.met.F.GameFile.whole_stays c.args.self.now.file c.number_of.new.self ready.0 c.number_of.ensures.read.stays).1
 
 pub returns-in-Some-2-clause-closed : goal.returns-in-Some-2-clause-closed
 returns-in-Some-2-clause-closed g c = λ is. absurd (not_refused _ _ (c.in_ok-source.ensures.closed is))
 
 pub returns-in-None-clause-ready : goal.returns-in-None-clause-ready
 returns-in-None-clause-ready g c = λ ready.
-    let asked = g.met.F.GameFile.whole_stays c.args.self.now.file c.number_of.new.self ready.0 c.number_of.ensures.stays in
+    let asked = g.met.F.GameFile.whole_stays c.args.self.now.file c.number_of.new.self ready.0 c.number_of.ensures.read.stays in
     (asked.0, same_source _ _ _ asked.1.text asked.1.packing asked.1.goal ready.1)
 
 pub returns-in-None-clause-asked : goal.returns-in-None-clause-asked
-returns-in-None-clause-asked g c = λ ready. (g.met.F.GameFile.whole_stays c.args.self.now.file c.number_of.new.self ready.0 c.number_of.ensures.stays).1
+returns-in-None-clause-asked g c = λ ready. (g.met.F.GameFile.whole_stays c.args.self.now.file c.number_of.new.self ready.0 c.number_of.ensures.read.stays).1
 
 pub returns-in-None-clause-closed : goal.returns-in-None-clause-closed
 returns-in-None-clause-closed g c = λ is. absurd (not_refused _ _ (c.in_ok-source.ensures.closed is))
@@ -120,13 +120,13 @@ pub returns-in_default-clause-lasts : goal.returns-in_default-clause-lasts
 returns-in_default-clause-lasts g c = g.met.F.GameFile.goes_on_lasts c.args.self.now.file c.args.self.now.file (g.met.F.Table.stays_goes_on c.args.self.now.file c.args.self.now.file (g.met.F.Table.stays_here c.args.self.now.file))
 
 pub returns-in_err-number-clause-lasts : goal.returns-in_err-number-clause-lasts
-returns-in_err-number-clause-lasts g c = g.met.F.GameFile.goes_on_lasts c.args.self.now.file c.number_of.new.self (g.met.F.Table.stays_goes_on c.args.self.now.file c.number_of.new.self c.number_of.ensures.stays)
+returns-in_err-number-clause-lasts g c = g.met.F.GameFile.goes_on_lasts c.args.self.now.file c.number_of.new.self (g.met.F.Table.stays_goes_on c.args.self.now.file c.number_of.new.self c.number_of.ensures.read.stays)
 
 pub returns-in-Some-2-clause-lasts : goal.returns-in-Some-2-clause-lasts
-returns-in-Some-2-clause-lasts g c = g.met.F.GameFile.goes_on_lasts c.args.self.now.file c.number_of.new.self (g.met.F.Table.stays_goes_on c.args.self.now.file c.number_of.new.self c.number_of.ensures.stays)
+returns-in-Some-2-clause-lasts g c = g.met.F.GameFile.goes_on_lasts c.args.self.now.file c.number_of.new.self (g.met.F.Table.stays_goes_on c.args.self.now.file c.number_of.new.self c.number_of.ensures.read.stays)
 
 pub returns-in-None-clause-lasts : goal.returns-in-None-clause-lasts
-returns-in-None-clause-lasts g c = g.met.F.GameFile.goes_on_lasts c.args.self.now.file c.number_of.new.self (g.met.F.Table.stays_goes_on c.args.self.now.file c.number_of.new.self c.number_of.ensures.stays)
+returns-in-None-clause-lasts g c = g.met.F.GameFile.goes_on_lasts c.args.self.now.file c.number_of.new.self (g.met.F.Table.stays_goes_on c.args.self.now.file c.number_of.new.self c.number_of.ensures.read.stays)
 
 pub returns-in_err-source-clause-no_game : goal.returns-in_err-source-clause-no_game
 returns-in_err-source-clause-no_game g c = λ is_open none. (passed_as c.from_residual.result _ _ c.from_residual.ensures (c.in_err-source.ensures.no_game is_open none), refl)

@@ -67,11 +67,11 @@ returns-in_default-clause-closed g c = λ is. absurd (not_refused _ _ (c.in_ok-s
 
 pub returns-in_err-told-clause-ready : goal.returns-in_err-told-clause-ready
 returns-in_err-told-clause-ready g c = λ ready.
-    let asked = g.met.F.GameFile.whole_stays c.args.self.now.file c.told_of.new.table ready.0 c.told_of.ensures.stays in
+    let asked = g.met.F.GameFile.whole_stays c.args.self.now.file c.told_of.new.table ready.0 c.told_of.ensures.read.stays in
     (asked.0, same_source _ _ _ asked.1.text asked.1.packing asked.1.goal ready.1)
 
 pub returns-in_err-told-clause-asked : goal.returns-in_err-told-clause-asked
-returns-in_err-told-clause-asked g c = λ ready. (g.met.F.GameFile.whole_stays c.args.self.now.file c.told_of.new.table ready.0 c.told_of.ensures.stays).1
+returns-in_err-told-clause-asked g c = λ ready. (g.met.F.GameFile.whole_stays c.args.self.now.file c.told_of.new.table ready.0 c.told_of.ensures.read.stays).1
 
 pub returns-in_err-told-clause-value : goal.returns-in_err-told-clause-value
 returns-in_err-told-clause-value g c = λ ready. gives_none c.from_residual-in_err-told.result _ _ c.from_residual-in_err-told.ensures
@@ -88,22 +88,22 @@ returns-in_err-told-clause-closed g c = λ is. absurd (not_refused _ _ (c.in_ok-
 
 pub returns-in-Some-number-clause-ready : goal.returns-in-Some-number-clause-ready
 returns-in-Some-number-clause-ready g c = λ ready.
-    let asked = g.met.F.GameFile.whole_stays c.args.self.now.file c.told_of.new.table ready.0 c.told_of.ensures.stays in
+    let asked = g.met.F.GameFile.whole_stays c.args.self.now.file c.told_of.new.table ready.0 c.told_of.ensures.read.stays in
     (asked.0, same_source _ _ _ asked.1.text asked.1.packing asked.1.goal ready.1)
 
 pub returns-in-Some-number-clause-asked : goal.returns-in-Some-number-clause-asked
-returns-in-Some-number-clause-asked g c = λ ready. (g.met.F.GameFile.whole_stays c.args.self.now.file c.told_of.new.table ready.0 c.told_of.ensures.stays).1
+returns-in-Some-number-clause-asked g c = λ ready. (g.met.F.GameFile.whole_stays c.args.self.now.file c.told_of.new.table ready.0 c.told_of.ensures.read.stays).1
 
 pub returns-in-Some-number-clause-closed : goal.returns-in-Some-number-clause-closed
 returns-in-Some-number-clause-closed g c = λ is. absurd (not_refused _ _ (c.in_ok-source.ensures.closed is))
 
 pub returns-in-None-clause-ready : goal.returns-in-None-clause-ready
 returns-in-None-clause-ready g c = λ ready.
-    let asked = g.met.F.GameFile.whole_stays c.args.self.now.file c.told_of.new.table ready.0 c.told_of.ensures.stays in
+    let asked = g.met.F.GameFile.whole_stays c.args.self.now.file c.told_of.new.table ready.0 c.told_of.ensures.read.stays in
     (asked.0, same_source _ _ _ asked.1.text asked.1.packing asked.1.goal ready.1)
 
 pub returns-in-None-clause-asked : goal.returns-in-None-clause-asked
-returns-in-None-clause-asked g c = λ ready. (g.met.F.GameFile.whole_stays c.args.self.now.file c.told_of.new.table ready.0 c.told_of.ensures.stays).1
+returns-in-None-clause-asked g c = λ ready. (g.met.F.GameFile.whole_stays c.args.self.now.file c.told_of.new.table ready.0 c.told_of.ensures.read.stays).1
 
 pub returns-in-None-clause-closed : goal.returns-in-None-clause-closed
 returns-in-None-clause-closed g c = λ is. absurd (not_refused _ _ (c.in_ok-source.ensures.closed is))
@@ -124,13 +124,13 @@ pub returns-in_default-clause-lasts : goal.returns-in_default-clause-lasts
 returns-in_default-clause-lasts g c = g.met.F.GameFile.goes_on_lasts c.args.self.now.file c.args.self.now.file (g.met.F.Table.stays_goes_on c.args.self.now.file c.args.self.now.file (g.met.F.Table.stays_here c.args.self.now.file))
 
 pub returns-in_err-told-clause-lasts : goal.returns-in_err-told-clause-lasts
-returns-in_err-told-clause-lasts g c = g.met.F.GameFile.goes_on_lasts c.args.self.now.file c.told_of.new.table (g.met.F.Table.stays_goes_on c.args.self.now.file c.told_of.new.table c.told_of.ensures.stays)
+returns-in_err-told-clause-lasts g c = g.met.F.GameFile.goes_on_lasts c.args.self.now.file c.told_of.new.table (g.met.F.Table.stays_goes_on c.args.self.now.file c.told_of.new.table c.told_of.ensures.read.stays)
 
 pub returns-in-Some-number-clause-lasts : goal.returns-in-Some-number-clause-lasts
-returns-in-Some-number-clause-lasts g c = g.met.F.GameFile.goes_on_lasts c.args.self.now.file c.told_of.new.table (g.met.F.Table.stays_goes_on c.args.self.now.file c.told_of.new.table c.told_of.ensures.stays)
+returns-in-Some-number-clause-lasts g c = g.met.F.GameFile.goes_on_lasts c.args.self.now.file c.told_of.new.table (g.met.F.Table.stays_goes_on c.args.self.now.file c.told_of.new.table c.told_of.ensures.read.stays)
 
 pub returns-in-None-clause-lasts : goal.returns-in-None-clause-lasts
-returns-in-None-clause-lasts g c = g.met.F.GameFile.goes_on_lasts c.args.self.now.file c.told_of.new.table (g.met.F.Table.stays_goes_on c.args.self.now.file c.told_of.new.table c.told_of.ensures.stays)
+returns-in-None-clause-lasts g c = g.met.F.GameFile.goes_on_lasts c.args.self.now.file c.told_of.new.table (g.met.F.Table.stays_goes_on c.args.self.now.file c.told_of.new.table c.told_of.ensures.read.stays)
 
 pub returns-in_err-source-clause-no_game : goal.returns-in_err-source-clause-no_game
 returns-in_err-source-clause-no_game g c = λ is_open none. (passed_as c.from_residual.result _ _ c.from_residual.ensures (c.in_err-source.ensures.no_game is_open none), refl)

@@ -32,11 +32,11 @@ list-requires-clause-few g c = c.count.ensures.few
 
 pub returns-in_err-list-clause-ready : goal.returns-in_err-list-clause-ready
 returns-in_err-list-clause-ready g c = λ ready.
-    let asked = g.met.F.GameFile.whole_stays c.args.self.now.file c.list.new.table ready.0 c.list.ensures.stays in
+    let asked = g.met.F.GameFile.whole_stays c.args.self.now.file c.list.new.table ready.0 c.list.ensures.read.stays in
     (asked.0, same_source _ _ _ asked.1.text asked.1.packing asked.1.goal ready.1)
 
 pub returns-in_err-list-clause-asked : goal.returns-in_err-list-clause-asked
-returns-in_err-list-clause-asked g c = λ ready. (g.met.F.GameFile.whole_stays c.args.self.now.file c.list.new.table ready.0 c.list.ensures.stays).1
+returns-in_err-list-clause-asked g c = λ ready. (g.met.F.GameFile.whole_stays c.args.self.now.file c.list.new.table ready.0 c.list.ensures.read.stays).1
 
 pub returns-in_err-list-clause-rows : goal.returns-in_err-list-clause-rows
 returns-in_err-list-clause-rows g c = λ ready. gives_none c.from_residual-in_err-list.result _ _ c.from_residual-in_err-list.ensures
@@ -53,11 +53,11 @@ returns-in_err-list-clause-closed g c = λ is. absurd (not_refused _ _ (c.in_ok-
 
 pub returns-clause-ready : goal.returns-clause-ready
 returns-clause-ready g c = λ ready.
-    let asked = g.met.F.GameFile.whole_stays c.args.self.now.file c.list.new.table ready.0 c.list.ensures.stays in
+    let asked = g.met.F.GameFile.whole_stays c.args.self.now.file c.list.new.table ready.0 c.list.ensures.read.stays in
     (asked.0, same_source _ _ _ asked.1.text asked.1.packing asked.1.goal ready.1)
 
 pub returns-clause-asked : goal.returns-clause-asked
-returns-clause-asked g c = λ ready. (g.met.F.GameFile.whole_stays c.args.self.now.file c.list.new.table ready.0 c.list.ensures.stays).1
+returns-clause-asked g c = λ ready. (g.met.F.GameFile.whole_stays c.args.self.now.file c.list.new.table ready.0 c.list.ensures.read.stays).1
 
 pub returns-clause-rows : goal.returns-clause-rows
 returns-clause-rows g c = λ ready honest.
@@ -78,10 +78,10 @@ pub returns-in_err-game_at-clause-lasts : goal.returns-in_err-game_at-clause-las
 returns-in_err-game_at-clause-lasts g c = g.met.F.GameFile.goes_on_lasts c.args.self.now.file c.args.self.now.file (g.met.F.Table.stays_goes_on c.args.self.now.file c.args.self.now.file (g.met.F.Table.stays_here c.args.self.now.file))
 
 pub returns-in_err-list-clause-lasts : goal.returns-in_err-list-clause-lasts
-returns-in_err-list-clause-lasts g c = g.met.F.GameFile.goes_on_lasts c.args.self.now.file c.list.new.table (g.met.F.Table.stays_goes_on c.args.self.now.file c.list.new.table c.list.ensures.stays)
+returns-in_err-list-clause-lasts g c = g.met.F.GameFile.goes_on_lasts c.args.self.now.file c.list.new.table (g.met.F.Table.stays_goes_on c.args.self.now.file c.list.new.table c.list.ensures.read.stays)
 
 pub returns-clause-lasts : goal.returns-clause-lasts
-returns-clause-lasts g c = g.met.F.GameFile.goes_on_lasts c.args.self.now.file c.list.new.table (g.met.F.Table.stays_goes_on c.args.self.now.file c.list.new.table c.list.ensures.stays)
+returns-clause-lasts g c = g.met.F.GameFile.goes_on_lasts c.args.self.now.file c.list.new.table (g.met.F.Table.stays_goes_on c.args.self.now.file c.list.new.table c.list.ensures.read.stays)
 
 pub returns-in_err-game_at-clause-no_game : goal.returns-in_err-game_at-clause-no_game
 returns-in_err-game_at-clause-no_game g c = λ is_open none. (passed_as c.from_residual.result _ _ c.from_residual.ensures (c.in_err-game_at.ensures.no_game is_open none), refl)

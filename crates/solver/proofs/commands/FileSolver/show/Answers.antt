@@ -46,11 +46,11 @@ packed-requires g c = c.in_ok-source.ensures.there
 
 pub returns-in_err-packed-clause-ready : goal.returns-in_err-packed-clause-ready
 returns-in_err-packed-clause-ready g c = λ ready.
-    let asked = g.met.F.GameFile.whole_stays c.args.self.now.file c.packed.new.self ready.0 c.packed.ensures.stays in
+    let asked = g.met.F.GameFile.whole_stays c.args.self.now.file c.packed.new.self ready.0 c.packed.ensures.read.stays in
     (asked.0, same_source _ _ _ asked.1.text asked.1.packing asked.1.goal ready.1)
 
 pub returns-in_err-packed-clause-asked : goal.returns-in_err-packed-clause-asked
-returns-in_err-packed-clause-asked g c = λ ready. (g.met.F.GameFile.whole_stays c.args.self.now.file c.packed.new.self ready.0 c.packed.ensures.stays).1
+returns-in_err-packed-clause-asked g c = λ ready. (g.met.F.GameFile.whole_stays c.args.self.now.file c.packed.new.self ready.0 c.packed.ensures.read.stays).1
 
 pub returns-in_err-packed-clause-text : goal.returns-in_err-packed-clause-text
 returns-in_err-packed-clause-text g c = λ ready. gives_none c.from_residual-in_err-packed.result _ _ c.from_residual-in_err-packed.ensures
@@ -67,11 +67,11 @@ returns-in_err-packed-clause-closed g c = λ is. absurd (not_refused _ _ (c.in_o
 
 pub returns-in_err-text-clause-ready : goal.returns-in_err-text-clause-ready
 returns-in_err-text-clause-ready g c = λ ready.
-    let asked = g.met.F.GameFile.whole_stays c.args.self.now.file c.packed.new.self ready.0 c.packed.ensures.stays in
+    let asked = g.met.F.GameFile.whole_stays c.args.self.now.file c.packed.new.self ready.0 c.packed.ensures.read.stays in
     (asked.0, same_source _ _ _ asked.1.text asked.1.packing asked.1.goal ready.1)
 
 pub returns-in_err-text-clause-asked : goal.returns-in_err-text-clause-asked
-returns-in_err-text-clause-asked g c = λ ready. (g.met.F.GameFile.whole_stays c.args.self.now.file c.packed.new.self ready.0 c.packed.ensures.stays).1
+returns-in_err-text-clause-asked g c = λ ready. (g.met.F.GameFile.whole_stays c.args.self.now.file c.packed.new.self ready.0 c.packed.ensures.read.stays).1
 
 pub returns-in_err-text-clause-text : goal.returns-in_err-text-clause-text
 returns-in_err-text-clause-text g c = λ ready. gives_none c.from_residual-in_err-text.result _ _ c.from_residual-in_err-text.ensures
@@ -84,22 +84,22 @@ returns-in_err-text-clause-closed g c = λ is. absurd (not_refused _ _ (c.in_ok-
 
 pub returns-in-Some-clause-ready : goal.returns-in-Some-clause-ready
 returns-in-Some-clause-ready g c = λ ready.
-    let asked = g.met.F.GameFile.whole_stays c.args.self.now.file c.packed.new.self ready.0 c.packed.ensures.stays in
+    let asked = g.met.F.GameFile.whole_stays c.args.self.now.file c.packed.new.self ready.0 c.packed.ensures.read.stays in
     (asked.0, same_source _ _ _ asked.1.text asked.1.packing asked.1.goal ready.1)
 
 pub returns-in-Some-clause-asked : goal.returns-in-Some-clause-asked
-returns-in-Some-clause-asked g c = λ ready. (g.met.F.GameFile.whole_stays c.args.self.now.file c.packed.new.self ready.0 c.packed.ensures.stays).1
+returns-in-Some-clause-asked g c = λ ready. (g.met.F.GameFile.whole_stays c.args.self.now.file c.packed.new.self ready.0 c.packed.ensures.read.stays).1
 
 pub returns-in-Some-clause-closed : goal.returns-in-Some-clause-closed
 returns-in-Some-clause-closed g c = λ is. absurd (not_refused _ _ (c.in_ok-source.ensures.closed is))
 
 pub returns-in-None-clause-ready : goal.returns-in-None-clause-ready
 returns-in-None-clause-ready g c = λ ready.
-    let asked = g.met.F.GameFile.whole_stays c.args.self.now.file c.packed.new.self ready.0 c.packed.ensures.stays in
+    let asked = g.met.F.GameFile.whole_stays c.args.self.now.file c.packed.new.self ready.0 c.packed.ensures.read.stays in
     (asked.0, same_source _ _ _ asked.1.text asked.1.packing asked.1.goal ready.1)
 
 pub returns-in-None-clause-asked : goal.returns-in-None-clause-asked
-returns-in-None-clause-asked g c = λ ready. (g.met.F.GameFile.whole_stays c.args.self.now.file c.packed.new.self ready.0 c.packed.ensures.stays).1
+returns-in-None-clause-asked g c = λ ready. (g.met.F.GameFile.whole_stays c.args.self.now.file c.packed.new.self ready.0 c.packed.ensures.read.stays).1
 
 pub returns-in-None-clause-closed : goal.returns-in-None-clause-closed
 returns-in-None-clause-closed g c = λ is. absurd (not_refused _ _ (c.in_ok-source.ensures.closed is))
@@ -114,16 +114,16 @@ pub returns-in_err-source-clause-lasts : goal.returns-in_err-source-clause-lasts
 returns-in_err-source-clause-lasts g c = g.met.F.GameFile.goes_on_lasts c.args.self.now.file c.args.self.now.file (g.met.F.Table.stays_goes_on c.args.self.now.file c.args.self.now.file (g.met.F.Table.stays_here c.args.self.now.file))
 
 pub returns-in_err-packed-clause-lasts : goal.returns-in_err-packed-clause-lasts
-returns-in_err-packed-clause-lasts g c = g.met.F.GameFile.goes_on_lasts c.args.self.now.file c.packed.new.self (g.met.F.Table.stays_goes_on c.args.self.now.file c.packed.new.self c.packed.ensures.stays)
+returns-in_err-packed-clause-lasts g c = g.met.F.GameFile.goes_on_lasts c.args.self.now.file c.packed.new.self (g.met.F.Table.stays_goes_on c.args.self.now.file c.packed.new.self c.packed.ensures.read.stays)
 
 pub returns-in_err-text-clause-lasts : goal.returns-in_err-text-clause-lasts
-returns-in_err-text-clause-lasts g c = g.met.F.GameFile.goes_on_lasts c.args.self.now.file c.packed.new.self (g.met.F.Table.stays_goes_on c.args.self.now.file c.packed.new.self c.packed.ensures.stays)
+returns-in_err-text-clause-lasts g c = g.met.F.GameFile.goes_on_lasts c.args.self.now.file c.packed.new.self (g.met.F.Table.stays_goes_on c.args.self.now.file c.packed.new.self c.packed.ensures.read.stays)
 
 pub returns-in-Some-clause-lasts : goal.returns-in-Some-clause-lasts
-returns-in-Some-clause-lasts g c = g.met.F.GameFile.goes_on_lasts c.args.self.now.file c.packed.new.self (g.met.F.Table.stays_goes_on c.args.self.now.file c.packed.new.self c.packed.ensures.stays)
+returns-in-Some-clause-lasts g c = g.met.F.GameFile.goes_on_lasts c.args.self.now.file c.packed.new.self (g.met.F.Table.stays_goes_on c.args.self.now.file c.packed.new.self c.packed.ensures.read.stays)
 
 pub returns-in-None-clause-lasts : goal.returns-in-None-clause-lasts
-returns-in-None-clause-lasts g c = g.met.F.GameFile.goes_on_lasts c.args.self.now.file c.packed.new.self (g.met.F.Table.stays_goes_on c.args.self.now.file c.packed.new.self c.packed.ensures.stays)
+returns-in-None-clause-lasts g c = g.met.F.GameFile.goes_on_lasts c.args.self.now.file c.packed.new.self (g.met.F.Table.stays_goes_on c.args.self.now.file c.packed.new.self c.packed.ensures.read.stays)
 
 pub returns-in_err-source-clause-no_game : goal.returns-in_err-source-clause-no_game
 returns-in_err-source-clause-no_game g c = λ is_open none. (passed_as c.from_residual.result _ _ c.from_residual.ensures (c.in_err-source.ensures.no_game is_open none), refl)

@@ -34,11 +34,11 @@ value-requires g c = c.in_ok-game_at.ensures.there
 
 pub returns-in_err-value-clause-ready : goal.returns-in_err-value-clause-ready
 returns-in_err-value-clause-ready g c = λ ready.
-    let asked = g.met.F.GameFile.whole_stays c.args.self.now.file c.value.new.table ready.0 c.value.ensures.stays in
+    let asked = g.met.F.GameFile.whole_stays c.args.self.now.file c.value.new.table ready.0 c.value.ensures.read.stays in
     (asked.0, same_source _ _ _ asked.1.text asked.1.packing asked.1.goal ready.1)
 
 pub returns-in_err-value-clause-asked : goal.returns-in_err-value-clause-asked
-returns-in_err-value-clause-asked g c = λ ready. (g.met.F.GameFile.whole_stays c.args.self.now.file c.value.new.table ready.0 c.value.ensures.stays).1
+returns-in_err-value-clause-asked g c = λ ready. (g.met.F.GameFile.whole_stays c.args.self.now.file c.value.new.table ready.0 c.value.ensures.read.stays).1
 
 pub returns-in_err-value-clause-value : goal.returns-in_err-value-clause-value
 returns-in_err-value-clause-value g c = λ ready. gives_none c.from_residual-in_err-value.result _ _ c.from_residual-in_err-value.ensures
@@ -55,11 +55,11 @@ returns-in_err-value-clause-closed g c = λ is. absurd (not_refused _ _ (c.in_ok
 
 pub returns-clause-ready : goal.returns-clause-ready
 returns-clause-ready g c = λ ready.
-    let asked = g.met.F.GameFile.whole_stays c.args.self.now.file c.value.new.table ready.0 c.value.ensures.stays in
+    let asked = g.met.F.GameFile.whole_stays c.args.self.now.file c.value.new.table ready.0 c.value.ensures.read.stays in
     (asked.0, same_source _ _ _ asked.1.text asked.1.packing asked.1.goal ready.1)
 
 pub returns-clause-asked : goal.returns-clause-asked
-returns-clause-asked g c = λ ready. (g.met.F.GameFile.whole_stays c.args.self.now.file c.value.new.table ready.0 c.value.ensures.stays).1
+returns-clause-asked g c = λ ready. (g.met.F.GameFile.whole_stays c.args.self.now.file c.value.new.table ready.0 c.value.ensures.read.stays).1
 
 pub returns-clause-closed : goal.returns-clause-closed
 returns-clause-closed g c = λ is. absurd (not_refused _ _ (c.in_ok-game_at.ensures.closed is))
@@ -71,10 +71,10 @@ pub returns-in_err-game_at-clause-lasts : goal.returns-in_err-game_at-clause-las
 returns-in_err-game_at-clause-lasts g c = g.met.F.GameFile.goes_on_lasts c.args.self.now.file c.args.self.now.file (g.met.F.Table.stays_goes_on c.args.self.now.file c.args.self.now.file (g.met.F.Table.stays_here c.args.self.now.file))
 
 pub returns-in_err-value-clause-lasts : goal.returns-in_err-value-clause-lasts
-returns-in_err-value-clause-lasts g c = g.met.F.GameFile.goes_on_lasts c.args.self.now.file c.value.new.table (g.met.F.Table.stays_goes_on c.args.self.now.file c.value.new.table c.value.ensures.stays)
+returns-in_err-value-clause-lasts g c = g.met.F.GameFile.goes_on_lasts c.args.self.now.file c.value.new.table (g.met.F.Table.stays_goes_on c.args.self.now.file c.value.new.table c.value.ensures.read.stays)
 
 pub returns-clause-lasts : goal.returns-clause-lasts
-returns-clause-lasts g c = g.met.F.GameFile.goes_on_lasts c.args.self.now.file c.value.new.table (g.met.F.Table.stays_goes_on c.args.self.now.file c.value.new.table c.value.ensures.stays)
+returns-clause-lasts g c = g.met.F.GameFile.goes_on_lasts c.args.self.now.file c.value.new.table (g.met.F.Table.stays_goes_on c.args.self.now.file c.value.new.table c.value.ensures.read.stays)
 
 pub returns-in_err-game_at-clause-no_game : goal.returns-in_err-game_at-clause-no_game
 returns-in_err-game_at-clause-no_game g c = λ is_open none. (passed_as c.from_residual.result _ _ c.from_residual.ensures (c.in_err-game_at.ensures.no_game is_open none), refl)

@@ -48,13 +48,13 @@ returns-in_err-commit-clause-refused g c = λ ready.
     passed_on _ c.from_residual-in_err-commit.result _ c.from_residual-in_err-commit.ensures
     (not_kept _ _ _ c.in_ok-source.source.now k made is _ c.in-Ok.done _
     (λ honest. let stored = g.met.F.GameFile.whole_stored file k ready.0 honest is in works_on c.in_ok-source.source.now k _ stored.1 _ _ _ _ c.count.ensures.is (c.in-Ok.ensures.works stored.0))
-    _ (refused.err file k ready.0 is c.in-Ok.ensures.ahead (λ honest. let stored = g.met.F.GameFile.whole_stored file k ready.0 honest is in c.in-Ok.ensures.fits stored.0 (rw stored.1 stored.2))).1 (refused.cause file k ready.0 is c.in-Ok.ensures.ahead) (refused.still file c.in-Ok.ensures.ahead))
+    _ (refused.err file k ready.0 is c.in-Ok.ensures.ok.ahead (λ honest. let stored = g.met.F.GameFile.whole_stored file k ready.0 honest is in c.in-Ok.ensures.fits stored.0 (rw stored.1 stored.2))).1 (refused.cause file k ready.0 is c.in-Ok.ensures.ok.ahead) (refused.still file c.in-Ok.ensures.ok.ahead))
 
 pub returns-in_err-commit-clause-ready : goal.returns-in_err-commit-clause-ready
 returns-in_err-commit-clause-ready g c = λ ready.
     let file = c.args.self.now.file in
     let (k, is, made) = kept_there c.in_ok-source.source.now _ (subst (λ (o : Option Compiled). IsSourceOf o (g.F.GameFile.state file).kept) c.in_ok-source.ensures.game ready.1) in
-    let left = c.in_err-commit.ensures.err file k ready.0 is c.in-Ok.ensures.ahead
+    let left = c.in_err-commit.ensures.err file k ready.0 is c.in-Ok.ensures.ok.ahead
     (λ honest. let stored = g.met.F.GameFile.whole_stored file k ready.0 honest is in c.in-Ok.ensures.fits stored.0 (rw stored.1 stored.2)) in
     (left.0, same_source _ _ _ left.1.text left.1.packing left.1.goal ready.1)
 
@@ -62,7 +62,7 @@ pub returns-in_err-commit-clause-sound : goal.returns-in_err-commit-clause-sound
 returns-in_err-commit-clause-sound g c = λ ready honest sound.
     let file = c.args.self.now.file in
     let (k, is, made) = kept_there c.in_ok-source.source.now _ (subst (λ (o : Option Compiled). IsSourceOf o (g.F.GameFile.state file).kept) c.in_ok-source.ensures.game ready.1) in
-    let left = c.in_err-commit.ensures.err file k ready.0 is c.in-Ok.ensures.ahead
+    let left = c.in_err-commit.ensures.err file k ready.0 is c.in-Ok.ensures.ok.ahead
     (λ honest. let stored = g.met.F.GameFile.whole_stored file k ready.0 honest is in c.in-Ok.ensures.fits stored.0 (rw stored.1 stored.2)) in
     rw (left.1.kept honest) sound
 
@@ -71,7 +71,7 @@ returns-in_ok-commit-clause-ready g c = λ ready.
     let file = c.args.self.now.file in
     let source = subst (λ (o : Option Compiled). IsSourceOf o (g.F.GameFile.state file).kept) c.in_ok-source.ensures.game ready.1 in
     let (k, is, made) = kept_there c.in_ok-source.source.now _ source in
-    let put = c.in_ok-commit.ensures.ok file k ready.0 is c.in-Ok.ensures.ahead
+    let put = c.in_ok-commit.ensures.ok file k ready.0 is c.in-Ok.ensures.ok.ahead
     (λ honest. let stored = g.met.F.GameFile.whole_stored file k ready.0 honest is in c.in-Ok.ensures.fits stored.0 (rw stored.1 stored.2)) in
     (put.0, rw c.in_ok-source.ensures.game (source_of_text c.in_ok-source.source.now _ k.text k.packing k.goal put.1.text put.1.packing put.1.goal made.reads made.packing made.goal))
 
@@ -79,19 +79,19 @@ pub returns-in_ok-commit-clause-done : goal.returns-in_ok-commit-clause-done
 returns-in_ok-commit-clause-done g c = λ ready.
     let file = c.args.self.now.file in
     let (k, is, made) = kept_there c.in_ok-source.source.now _ (subst (λ (o : Option Compiled). IsSourceOf o (g.F.GameFile.state file).kept) c.in_ok-source.ensures.game ready.1) in
-    let put = c.in_ok-commit.ensures.ok file k ready.0 is c.in-Ok.ensures.ahead
+    let put = c.in_ok-commit.ensures.ok file k ready.0 is c.in-Ok.ensures.ok.ahead
     (λ honest. let stored = g.met.F.GameFile.whole_stored file k ready.0 honest is in c.in-Ok.ensures.fits stored.0 (rw stored.1 stored.2)) in
     worked_done _ _ _ c.in_ok-source.source.now k made is _ c.in-Ok.done _
     (λ honest. let stored = g.met.F.GameFile.whole_stored file k ready.0 honest is in works_on c.in_ok-source.source.now k _ stored.1 _ _ _ _ c.count.ensures.is (c.in-Ok.ensures.works stored.0))
-    _ (λ honest. c.counts-counts.ensures ∙ g.met.F.Table.counts_are c.work.new.table (c.in-Ok.ensures.honest.0 (g.met.F.GameFile.whole_stored file k ready.0 honest is).0))
+    _ (λ honest. c.counts-counts.ensures ∙ g.met.F.Table.counts_are c.work.new.table (c.in-Ok.ensures.ok.honest.0 (g.met.F.GameFile.whole_stored file k ready.0 honest is).0))
     (λ honest is_open. g.met.F.GameFile.whole_leaves c.commit.new.self put.0 honest is_open)
-    (ahead_then (g.met.F.GameFile.goes_ahead file c.work.new.table c.in-Ok.ensures.ahead) c.commit.ensures.ahead).goes_on put.1
+    (ahead_then (g.met.F.GameFile.goes_ahead file c.work.new.table c.in-Ok.ensures.ok.ahead) c.commit.ensures.ahead).goes_on put.1
 
 pub returns-in_ok-commit-clause-sound : goal.returns-in_ok-commit-clause-sound
 returns-in_ok-commit-clause-sound g c = λ ready honest sound.
     let file = c.args.self.now.file in
     let (k, is, made) = kept_there c.in_ok-source.source.now _ (subst (λ (o : Option Compiled). IsSourceOf o (g.F.GameFile.state file).kept) c.in_ok-source.ensures.game ready.1) in
-    let put = c.in_ok-commit.ensures.ok file k ready.0 is c.in-Ok.ensures.ahead
+    let put = c.in_ok-commit.ensures.ok file k ready.0 is c.in-Ok.ensures.ok.ahead
     (λ honest. let stored = g.met.F.GameFile.whole_stored file k ready.0 honest is in c.in-Ok.ensures.fits stored.0 (rw stored.1 stored.2)) in
     kept_sound _ _ _ c.in_ok-source.source.now k made is _ c.in-Ok.done _
     (λ honest. let stored = g.met.F.GameFile.whole_stored file k ready.0 honest is in works_on c.in_ok-source.source.now k _ stored.1 _ _ _ _ c.count.ensures.is (c.in-Ok.ensures.works stored.0))
@@ -106,7 +106,7 @@ returns-else-done-gt0-clause-done g c = λ ready.
     (idle_done _ _ c.in_ok-source.source.now k made is _ c.in-Ok.done (g.F.Table.stored c.work.new.table) _
     (λ honest. let stored = g.met.F.GameFile.whole_stored file k ready.0 honest is in works_on c.in_ok-source.source.now k _ stored.1 _ _ _ _ c.count.ensures.is (c.in-Ok.ensures.works stored.0))
     (λ honest. ap g.F.Table.stored same ∙ (g.met.F.GameFile.whole_stored file k ready.0 honest is).1)
-    (λ honest. c.counts-counts.ensures ∙ g.met.F.Table.counts_are c.work.new.table (c.in-Ok.ensures.honest.0 (g.met.F.GameFile.whole_stored file k ready.0 honest is).0))
+    (λ honest. c.counts-counts.ensures ∙ g.met.F.Table.counts_are c.work.new.table (c.in-Ok.ensures.ok.honest.0 (g.met.F.GameFile.whole_stored file k ready.0 honest is).0))
     (λ honest is_open. g.met.F.GameFile.whole_leaves file ready.0 honest is_open) c.in_ok-source.ensures.open)
 
 pub returns-else-done-gt0-clause-idle : goal.returns-else-done-gt0-clause-idle
@@ -146,7 +146,7 @@ returns-in-Err-clause-sound g c = λ ready honest sound.
     rw (given.1.kept honest) sound
 
 pub returns-in_err-commit-clause-ahead : goal.returns-in_err-commit-clause-ahead
-returns-in_err-commit-clause-ahead g c = ahead_then (g.met.F.GameFile.goes_ahead c.args.self.now.file c.work.new.table c.in-Ok.ensures.ahead) c.commit.ensures.ahead
+returns-in_err-commit-clause-ahead g c = ahead_then (g.met.F.GameFile.goes_ahead c.args.self.now.file c.work.new.table c.in-Ok.ensures.ok.ahead) c.commit.ensures.ahead
 
 pub returns-in_err-commit-clause-done : goal.returns-in_err-commit-clause-done
 returns-in_err-commit-clause-done g c = λ ready. gives_none c.from_residual-in_err-commit.result _ _ c.from_residual-in_err-commit.ensures
@@ -161,7 +161,7 @@ pub returns-in_err-commit-clause-idle : goal.returns-in_err-commit-clause-idle
 returns-in_err-commit-clause-idle g c = gives_none c.from_residual-in_err-commit.result _ _ c.from_residual-in_err-commit.ensures
 
 pub returns-in_ok-commit-clause-ahead : goal.returns-in_ok-commit-clause-ahead
-returns-in_ok-commit-clause-ahead g c = ahead_then (g.met.F.GameFile.goes_ahead c.args.self.now.file c.work.new.table c.in-Ok.ensures.ahead) c.commit.ensures.ahead
+returns-in_ok-commit-clause-ahead g c = ahead_then (g.met.F.GameFile.goes_ahead c.args.self.now.file c.work.new.table c.in-Ok.ensures.ok.ahead) c.commit.ensures.ahead
 
 pub returns-in_ok-commit-clause-closed : goal.returns-in_ok-commit-clause-closed
 returns-in_ok-commit-clause-closed g c = λ is. absurd (not_refused _ _ (c.in_ok-source.ensures.closed is))
@@ -178,7 +178,7 @@ returns-else-done-gt0-clause-ready g c = λ ready.
     rw same ready
 
 pub returns-else-done-gt0-clause-ahead : goal.returns-else-done-gt0-clause-ahead
-returns-else-done-gt0-clause-ahead g c = g.met.F.GameFile.goes_ahead c.args.self.now.file c.work.new.table c.in-Ok.ensures.ahead
+returns-else-done-gt0-clause-ahead g c = g.met.F.GameFile.goes_ahead c.args.self.now.file c.work.new.table c.in-Ok.ensures.ok.ahead
 
 pub returns-else-done-gt0-clause-closed : goal.returns-else-done-gt0-clause-closed
 returns-else-done-gt0-clause-closed g c = λ is. absurd (not_refused _ _ (c.in_ok-source.ensures.closed is))
@@ -235,13 +235,13 @@ returns-in-Err-clause-lasts g c =
     (λ f fails. g.met.F.GameFile.fails_lasts file c.work.new.table f fails)) c.discard.ensures.lasts
 
 pub returns-in_err-commit-clause-lasts : goal.returns-in_err-commit-clause-lasts
-returns-in_err-commit-clause-lasts g c = g.met.F.GameFile.lasts_then c.args.self.now.file c.work.new.table c.commit.new.self (g.met.F.GameFile.goes_on_lasts c.args.self.now.file c.work.new.table c.in-Ok.ensures.ahead) c.commit.ensures.lasts
+returns-in_err-commit-clause-lasts g c = g.met.F.GameFile.lasts_then c.args.self.now.file c.work.new.table c.commit.new.self (g.met.F.GameFile.goes_on_lasts c.args.self.now.file c.work.new.table c.in-Ok.ensures.ok.ahead) c.commit.ensures.lasts
 
 pub returns-in_ok-commit-clause-lasts : goal.returns-in_ok-commit-clause-lasts
-returns-in_ok-commit-clause-lasts g c = g.met.F.GameFile.lasts_then c.args.self.now.file c.work.new.table c.commit.new.self (g.met.F.GameFile.goes_on_lasts c.args.self.now.file c.work.new.table c.in-Ok.ensures.ahead) c.commit.ensures.lasts
+returns-in_ok-commit-clause-lasts g c = g.met.F.GameFile.lasts_then c.args.self.now.file c.work.new.table c.commit.new.self (g.met.F.GameFile.goes_on_lasts c.args.self.now.file c.work.new.table c.in-Ok.ensures.ok.ahead) c.commit.ensures.lasts
 
 pub returns-else-done-gt0-clause-lasts : goal.returns-else-done-gt0-clause-lasts
-returns-else-done-gt0-clause-lasts g c = g.met.F.GameFile.goes_on_lasts c.args.self.now.file c.work.new.table c.in-Ok.ensures.ahead
+returns-else-done-gt0-clause-lasts g c = g.met.F.GameFile.goes_on_lasts c.args.self.now.file c.work.new.table c.in-Ok.ensures.ok.ahead
 
 pub returns-in-Err-clause-full : goal.returns-in-Err-clause-full
 returns-in-Err-clause-full g c = λ ready honest full.
@@ -258,7 +258,7 @@ returns-in_err-commit-clause-full g c = λ ready honest.
     let (k, is, made) = kept_there c.in_ok-source.source.now _ (subst (λ (o : Option Compiled). IsSourceOf o (g.F.GameFile.state file).kept) c.in_ok-source.ensures.game ready.1) in
     passed_on _ c.from_residual-in_err-commit.result _ c.from_residual-in_err-commit.ensures
     (λ full. absurd (commit_not_full k.table (g.F.Table.stored c.work.new.table) (g.F.GameFile.state file) (g.F.GameFile.state c.commit.new.self) _
-    (c.in_err-commit.ensures.cause file k ready.0 is c.in-Ok.ensures.ahead) full))
+    (c.in_err-commit.ensures.cause file k ready.0 is c.in-Ok.ensures.ok.ahead) full))
 
 pub returns-in_err-source-clause-full : goal.returns-in_err-source-clause-full
 returns-in_err-source-clause-full g c = λ ready honest.

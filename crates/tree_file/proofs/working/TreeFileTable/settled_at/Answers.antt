@@ -12,7 +12,7 @@ invariant_of-self g c =
     let was : IsBackedFile g.row.LAYOUT self.commits (file_of (work_in self.table) self.game) = record
     { of_layout = self.of_layout; counted = self.counted; sized = self.sized; sealed = self.sealed; stands = self.stands } in
     let is = backed_still g.row.LAYOUT self.commits (file_of (work_in self.table) self.game) (file_of (work_in c.settled_at.new.self) self.game) was
-    (works_still c.settled_at.ensures.stays.works) c.settled_at.ensures.stays.text refl in
+    (works_still c.settled_at.ensures.read.stays.works) c.settled_at.ensures.read.stays.text refl in
     record { of_layout = is.of_layout; counted = is.counted; sized = is.sized; sealed = is.sealed; stands = is.stands }
 
 pub returns-clause-fault : goal.returns-clause-fault

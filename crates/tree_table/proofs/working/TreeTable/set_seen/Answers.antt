@@ -5,9 +5,9 @@ use Rattle.retrograde.specs.Changes.{with_record}
 use Rattle.retrograde.specs.Stored.{Stored}
 use Rattle.tree_table.specs.declared.last.Seen.{Seen}
 use Rattle.tree_table.specs.Last.{IsSeenIn}
-use Rattle.tree_table.specs.Working.{work_of, table_now, HoldsTable, HoldsWork, IsHonestWork}
+use Rattle.tree_table.specs.Working.{Work, work_of, table_now, HoldsTable, HoldsWork, IsHonestWork}
 use Rattle.tree_table.specs.aid.Frames.{honest_before}
-use Rattle.tree_table.proofs.Holding.{now_held, now_stored, now_goes_on}
+use Rattle.tree_table.proofs.Holding.{now_held, now_stored, now_goes_on, writes_so}
 use Rattle.tree_table.proofs.Seeing.{IsCellAt, was_seen, long_seen, seen_with_record}
 use Rattle.tree_table.proofs.working.TreeTable.set_seen.Goals as goal
 
@@ -52,8 +52,8 @@ returns-clause-set g c = λ honest.
     λ honest h. done.table honest.disk text (table_now old) h (was honest).0 (was honest).1 in
     now_stored old new now few done.works refl refl changed self.holds honest
 
-pub returns-clause-ahead : goal.returns-clause-ahead
-returns-clause-ahead g c =
+pub returns-clause-wrote : goal.returns-clause-wrote
+returns-clause-wrote g c =
     let self = c.args.self.now in
     let text = self.text.items in
     let old = work_of self.slot text self.torn (g.P.Pages.store self.store) in
@@ -64,7 +64,7 @@ returns-clause-ahead g c =
     let was : IsHonestWork old → IsCellAt (table_now old) c.args.number c.in-Some.seen.cell = was_seen (table_now old) self.seen c.in-Some.seen c.args.number old (c.in-Some.is) c.requires.seen self.last in
     let changed : IsHonestWork old → HoldsWork old → HoldsTable c.in-Ok.slot text now (g.P.Pages.store c.set_record.new.store) =
     λ honest h. done.table honest.disk text (table_now old) h (was honest).0 (was honest).1 in
-    now_goes_on old new now few done.works refl refl changed done.open done.slot.text done.slot.packing done.slot.goal
+    writes_so (λ (w : Work). w) old new (now_goes_on old new now few done.works refl refl changed done.open done.slot.text done.slot.packing done.slot.goal) done.known
 
 pub invariant_of-self : goal.invariant_of-self
 invariant_of-self g c =

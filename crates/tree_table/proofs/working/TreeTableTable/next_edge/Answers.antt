@@ -1,6 +1,7 @@
 use mathlib.Core.Logic.{∥∥₁_elim}
+use Rattle.tree_table.specs.InTrees.{work_in}
 use Rattle.tree_table.specs.Working.{work_of, table_now, work_there, HoldsWork}
-use Rattle.tree_table.proofs.Holding.{only_read, still_held, still_seen, read_refused, read_without_page, ok_prop, none_prop}
+use Rattle.tree_table.proofs.Holding.{only_read, reads_so, still_held, still_seen, read_refused, read_without_page, ok_prop, none_prop}
 use Rattle.tree_table.specs.aid.Last.{if_prop}
 use Rattle.tree_table.proofs.Holding.{next_prop, no_more_prop}
 use Rattle.tree_table.specs.aid.Readers.{near_stays}
@@ -46,3 +47,9 @@ returns-clause-fault g c =
 pub returns-clause-room : goal.returns-clause-room
 returns-clause-room g c =
     read_without_page c.args.self.now.slot (g.P.Pages.store c.args.self.now.store) (g.P.Pages.store c.edge_after.new.store) c.edge_after.result c.edge_after.ensures.cause
+
+pub returns-clause-read : goal.returns-clause-read
+returns-clause-read g c =
+    let self = c.args.self.now in
+    reads_so work_in _ _
+    (only_read self.slot self.text.items self.torn (g.P.Pages.store self.store) (g.P.Pages.store c.edge_after.new.store) c.edge_after.ensures.works c.edge_after.ensures.unchanged)

@@ -2,10 +2,11 @@ use Rattle.std.proofs.Common.{◌≤◌, ◌^◌, refl, arith, ◌≡◌, ℕ, l
 use Rattle.btree.specs.declared.find.reader.Reader.{Reader}
 use Rattle.tree_table.specs.Readers.{IsNear}
 use Rattle.retrograde.specs.Changes.{with_settled}
+use Rattle.tree_table.specs.InTrees.{work_in}
 use Rattle.tree_table.specs.Working.{work_of, table_now, HoldsTable, HoldsWork, IsHonestWork}
 use Rattle.std.specs.Option.{IfSome}
 use Rattle.tree_table.proofs.Seeing.{seen_with_settled}
-use Rattle.tree_table.proofs.Holding.{now_held, now_stored, now_seen, now_goes_on}
+use Rattle.tree_table.proofs.Holding.{now_held, now_stored, now_seen, now_goes_on, writes_so}
 use Rattle.tree_table.proofs.working.TreeTableTable.push_settled.Goals as goal
 
 pub invariant_of-self-2 : goal.invariant_of-self-2
@@ -43,8 +44,8 @@ returns-clause-pushed g c = λ honest.
     λ honest h. done.table honest.disk text (table_now old) h in
     now_stored old new now few done.works refl refl changed self.holds honest
 
-pub returns-clause-ahead : goal.returns-clause-ahead
-returns-clause-ahead g c =
+pub returns-clause-wrote : goal.returns-clause-wrote
+returns-clause-wrote g c =
     let self = c.args.self.now in
     let text = self.text.items in
     let old = work_of self.slot text self.torn (g.P.Pages.store self.store) in
@@ -54,7 +55,7 @@ returns-clause-ahead g c =
     let few : c.in_ok-self.field-0.sizes.counts.known ≤ 2 ^ 24 = omega (arith, done.known, self.few) in
     let changed : IsHonestWork old → HoldsWork old → HoldsTable c.in_ok-self.field-0 text now (g.P.Pages.store c.push_settled.new.store) =
     λ honest h. done.table honest.disk text (table_now old) h in
-    now_goes_on old new now few done.works refl refl changed done.open done.slot.text done.slot.packing done.slot.goal
+    writes_so work_in _ _ (now_goes_on old new now few done.works refl refl changed done.open done.slot.text done.slot.packing done.slot.goal) done.known
 
 pub invariant_of-self : goal.invariant_of-self
 invariant_of-self g c =

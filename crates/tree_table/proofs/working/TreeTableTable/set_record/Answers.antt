@@ -1,14 +1,18 @@
+use Rattle.std.proofs.Common.{ap, ◌∙◌}
+use Rattle.tree_table.specs.declared.slot.TreeSlot.{TreeSlot}
 use Rattle.std.proofs.lemmas.Result.{IfErr-weaker}
-use Rattle.tree_table.specs.Working.{WorkGoesOn, WorkFails}
+use Rattle.tree_table.specs.Working.{WorkFails}
 use Rattle.tree_table.specs.InTrees.{work_in}
 use Rattle.tree_table.specs.aid.Frames.{stays_goes_on, goes_on_then, fails_since}
+use Rattle.tree_table.proofs.Holding.{writes_so}
 use Rattle.tree_table.proofs.Committing.{on_ok}
 use Rattle.tree_table.proofs.working.TreeTableTable.set_record.Goals as goal
 
-pub returns-clause-ahead : goal.returns-clause-ahead
-returns-clause-ahead g c =
-    on_ok (WorkGoesOn (work_in c.see.new.self) (work_in c.set_seen.new.self)) (WorkGoesOn (work_in c.args.self.now) (work_in c.set_seen.new.self))
-    c.set_seen.result (λ ahead. goes_on_then (stays_goes_on c.in_ok-see.ensures.stays) ahead) c.set_seen.ensures.ahead
+pub returns-clause-wrote : goal.returns-clause-wrote
+returns-clause-wrote g c =
+    on_ok _ _ c.set_seen.result
+    (λ wrote. writes_so work_in _ _ (goes_on_then (stays_goes_on c.in_ok-see.ensures.stays) wrote.ahead)
+    (wrote.known ∙ ap (λ (s : TreeSlot). s.sizes.counts.known) c.in_ok-see.ensures.stays.slot)) c.set_seen.ensures.wrote
 
 pub returns-clause-fault : goal.returns-clause-fault
 returns-clause-fault g c =

@@ -1,8 +1,9 @@
 use Rattle.std.proofs.Common.{Some}
 use mathlib.Core.Logic.{∥∥₁_elim}
 use Rattle.std.specs.Prelude.{slice_get}
+use Rattle.tree_table.specs.InTrees.{work_in}
 use Rattle.tree_table.specs.Working.{work_of, table_now, work_there, HoldsWork}
-use Rattle.tree_table.proofs.Holding.{only_read, still_held, still_seen, read_refused, read_without_page, number_prop, ok_prop}
+use Rattle.tree_table.proofs.Holding.{only_read, reads_so, still_held, still_seen, read_refused, read_without_page, number_prop, ok_prop}
 use Rattle.tree_table.specs.aid.Readers.{near_stays}
 use Rattle.tree_table.proofs.working.TreeTableTable.settled_at.Goals as goal
 
@@ -40,3 +41,9 @@ returns-clause-fault g c =
 pub returns-clause-room : goal.returns-clause-room
 returns-clause-room g c =
     read_without_page c.args.self.now.slot (g.P.Pages.store c.args.self.now.store) (g.P.Pages.store c.settled_at.new.store) c.settled_at.result c.settled_at.ensures.cause
+
+pub returns-clause-read : goal.returns-clause-read
+returns-clause-read g c =
+    let self = c.args.self.now in
+    reads_so work_in _ _
+    (only_read self.slot self.text.items self.torn (g.P.Pages.store self.store) (g.P.Pages.store c.settled_at.new.store) c.settled_at.ensures.works c.settled_at.ensures.unchanged)
