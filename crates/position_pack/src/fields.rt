@@ -1,17 +1,18 @@
 //! The fields of a position as numbers, and their bits.
 
 ghost use Rattle.std.specs.Prelude.{◌≡◌, ◌+◌, ◌-◌, ◌*◌, ◌/◌, ◌≤◌, ◌<◌, ◌++◌, ℕ, List, length, slice_index, MatchOption};
-ghost use Rattle.std.specs.List.{sum_by};
+ghost use Rattle.std.specs.List.{flat_map, sum_by};
 ghost use Rattle.arrayvec.specs.ArrayVec.{array_vec_len};
 ghost use Rattle.position_pack.specs.Fields as spec;
 ghost use Rattle.position_pack.specs.Bits as bits;
-ghost use Rattle.position_pack.specs.Bits.{width, field_bits, bytes_of_bits};
+ghost use Rattle.position_pack.specs.Bits.{width, bits_of, field_bits, bytes_of_bits};
 ghost use Rattle.position_pack.specs.aid.Bits.{AreFields, IsFieldsOf, AreInRange};
+ghost use Rattle.position_pack.specs.aid.Streams.{written, IsWriter};
 
 use crate::packed::Packed;
 use crate::parts::{role_byte, role_of};
 use crate::reader::{Reader, take};
-use crate::writer::{finish, new_writer, put};
+use crate::writer::{Writer, finish, new_writer, put};
 use arrayvec::ArrayVec;
 use rbg_game::position::{Position, SemiState};
 
@@ -124,17 +125,40 @@ fn values_of(fields: &[u32]) -> ArrayVec<u32, 34>
 }
 
 /// The bytes of fields, each in the fewest bits for its greatest value.
-pub fn put_fields(greatest: &[u32], fields: &[u32]) -> Packed
+pub fn bytes_of_fields(greatest: &[u32], fields: &[u32]) -> Packed
     requires { sum_by width greatest.now ≤ 1920 }
     ensures { result.items ≡ bytes_of_bits (field_bits greatest.now fields.now) }
 {
     let mut writer = new_writer();
+    put_fields(&mut writer, greatest, fields);
+    finish(writer)
+}
+
+/// Writes fields, each in the fewest bits for its greatest value.
+pub fn put_fields(writer: &mut Writer, greatest: &[u32], fields: &[u32])
+    requires writer { IsWriter writer.old }
+    requires room { length (written writer.old) + sum_by width greatest.now ≤ 1920 }
+    ensures writer { IsWriter writer.new }
+    ensures bits { written writer.new ≡ written writer.old ++ field_bits greatest.now fields.now }
+{
     for (index, most) in greatest.iter().enumerate() {
         if index < fields.len() {
-            put(&mut writer, width_of(*most), fields[index]);
+            put(writer, width_of(*most), fields[index]);
         }
     }
-    finish(writer)
+}
+
+/// Writes pieces, each in this many bits.
+pub fn put_piece_bits(writer: &mut Writer, width: u32, pieces: &[u8])
+    requires writer { IsWriter writer.old }
+    requires width { width ≤ 32 }
+    requires room { length (written writer.old) + length pieces.now * width ≤ 1920 }
+    ensures writer { IsWriter writer.new }
+    ensures bits { written writer.new ≡ written writer.old ++ flat_map (bits_of width) pieces.now }
+{
+    for piece in pieces {
+        put(writer, width, u32::from(*piece));
+    }
 }
 
 /// The fields with these bytes: none where one is over its greatest value, or a bit after the last
