@@ -25,7 +25,8 @@ field_append [] bs [] ys e = refl
 field_append [] bs (x ∷ xs) ys e = absurd (omega (arith, e))
 field_append (g ∷ gs) bs [] ys e = absurd (omega (arith, e))
 field_append (g ∷ gs) bs (x ∷ xs) ys e =
-    ap (λ zs. bits_of (width g) x ++ zs) (field_append gs bs xs ys (omega (arith, e))) ∙ sym (append_assoc (bits_of (width g) x) (field_bits gs xs) (field_bits bs ys))
+    ap (λ zs. bits_of (width g) x ++ zs) (field_append gs bs xs ys (omega (arith, e)))
+    ∙ sym (append_assoc (bits_of (width g) x) (field_bits gs xs) (field_bits bs ys))
 
 field_all : (n most : ℕ) (xs : List ℕ) → length xs ≡ n → field_bits (replicate n most) xs ≡ flat_map (bits_of (width most)) xs
 field_all zero most [] e = refl
@@ -40,7 +41,8 @@ front_bits s at = flat_map (bits_of (width (s.pieces - 1))) at.state.pieces.item
 
 -- the bits of a position with as many pieces and values as the shape says
 pub by_parts : (s : Shape) (at : Position) → length at.state.pieces.items ≡ s.vertices → length at.state.values.items ≡ length s.bounds
-    → ((front_bits s at ++ bits_of (width (s.vertices - 1)) at.state.vertex) ++ bits_of (width 2) (role_code at.state.mover)) ++ bits_of (width s.actions) at.place
+    → ((front_bits s at ++ bits_of (width (s.vertices - 1)) at.state.vertex) ++ bits_of (width 2) (role_code at.state.mover))
+    ++ bits_of (width s.actions) at.place
     ≡ field_bits (greatest_of s) (fields_of at)
 by_parts s at pieces values =
     let front = replicate s.vertices (s.pieces - 1) in
@@ -52,7 +54,9 @@ by_parts s at pieces values =
     let many = length-replicate s.vertices (s.pieces - 1) in
     let one = length-append front s.bounds in
     let two = length-append ps vs in
-    let outer = field_append (front ++ s.bounds) ((s.vertices - 1) ∷ 2 ∷ s.actions ∷ []) (ps ++ vs) (at.state.vertex ∷ role_code at.state.mover ∷ at.place ∷ []) (omega (arith, many, one, two, pieces, values)) in
+    let most = (s.vertices - 1) ∷ 2 ∷ s.actions ∷ [] in
+    let last = at.state.vertex ∷ role_code at.state.mover ∷ at.place ∷ [] in
+    let outer = field_append (front ++ s.bounds) most (ps ++ vs) last (omega (arith, many, one, two, pieces, values)) in
     let inner = field_append front s.bounds ps vs (omega (arith, many, pieces)) in
     let all = field_all s.vertices (s.pieces - 1) ps pieces in
     sym (outer ∙ ap (λ xs. xs ++ (a ++ (b ++ (d ++ [])))) (inner ∙ ap (λ xs. xs ++ field_bits s.bounds vs) all)
@@ -60,7 +64,8 @@ by_parts s at pieces values =
     ∙ sym (append_assoc (front_bits s at) a (b ++ d)) ∙ sym (append_assoc (front_bits s at ++ a) b d))
 
 -- how many bits all fields have, part by part
-pub bits_by_parts : (s : Shape) → sum_by width (greatest_of s) ≡ s.vertices * width (s.pieces - 1) + sum_by width s.bounds + width (s.vertices - 1) + width 2 + width s.actions
+pub bits_by_parts : (s : Shape) → sum_by width (greatest_of s)
+    ≡ s.vertices * width (s.pieces - 1) + sum_by width s.bounds + width (s.vertices - 1) + width 2 + width s.actions
 bits_by_parts s =
     let front = replicate s.vertices (s.pieces - 1) in
     let last = (s.vertices - 1) ∷ 2 ∷ s.actions ∷ [] in

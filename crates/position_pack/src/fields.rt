@@ -1,6 +1,6 @@
 //! The fields of a position as numbers, and their bits.
 
-ghost use Rattle.std.specs.Prelude.{◌≡◌, ◌+◌, ◌-◌, ◌*◌, ◌/◌, ◌≤◌, ◌<◌, ◌++◌, ℕ, List, length, slice_index, MatchOption};
+ghost use Rattle.std.specs.Prelude.{◌≡◌, ◌+◌, ◌-◌, ◌*◌, ◌/◌, ◌≤◌, ◌<◌, ◌++◌, ℕ, List, [], length, slice_index, MatchBool, MatchOption};
 ghost use Rattle.std.specs.List.{flat_map, sum_by};
 ghost use Rattle.arrayvec.specs.ArrayVec.{array_vec_len};
 ghost use Rattle.position_pack.specs.Fields as spec;
@@ -92,36 +92,39 @@ pub fn position_of(fields: &[u32], vertices: usize) -> Option<Position>
     let vertex = last[0] as u8;
     let mover = role_of(last[1] as u8)?;
     let place = last[2] as u16;
-    Some(Position {
+    let mut at = Position {
         state: SemiState {
             mover,
-            pieces: pieces_of(pieces),
-            values: values_of(values),
+            pieces: ArrayVec::new(),
+            values: ArrayVec::new(),
             vertex,
         },
         place,
-    })
+    };
+    take_pieces(pieces, &mut at.state.pieces);
+    take_values(values, &mut at.state.values);
+    Some(at)
 }
 
-fn pieces_of(fields: &[u32]) -> ArrayVec<u8, 128>
+/// Puts the fields behind the pieces.
+fn take_pieces(fields: &[u32], pieces: &mut ArrayVec<u8, 128>)
     requires few { length fields.now ≤ 128 }
     requires low { (k : ℕ) → k < length fields.now → slice_index fields.now k < 256 }
-    ensures { result.items ≡ fields.now }
+    requires none { pieces.old.items ≡ [] }
+    ensures { pieces.new.items ≡ fields.now }
 {
-    let mut pieces = ArrayVec::new();
     for field in fields {
         pieces.push(*field as u8);
     }
-    pieces
 }
 
-fn values_of(fields: &[u32]) -> ArrayVec<u32, 34>
-    requires { length fields.now ≤ 34 }
-    ensures { result.items ≡ fields.now }
+/// Puts the fields behind the values.
+fn take_values(fields: &[u32], values: &mut ArrayVec<u32, 34>)
+    requires few { length fields.now ≤ 34 }
+    requires none { values.old.items ≡ [] }
+    ensures { values.new.items ≡ fields.now }
 {
-    let mut values = ArrayVec::new();
     let _room = values.try_extend_from_slice(fields);
-    values
 }
 
 /// The bytes of fields, each in the fewest bits for its greatest value.
@@ -131,7 +134,8 @@ pub fn bytes_of_fields(greatest: &[u32], fields: &[u32]) -> Packed
 {
     let mut writer = new_writer();
     put_fields(&mut writer, greatest, fields);
-    finish(writer)
+    finish(&mut writer);
+    writer.bytes
 }
 
 /// Writes fields, each in the fewest bits for its greatest value.
@@ -161,29 +165,26 @@ pub fn put_piece_bits(writer: &mut Writer, width: u32, pieces: &[u8])
     }
 }
 
-/// The fields with these bytes: none where one is over its greatest value, or a bit after the last
-/// is not zero.
-pub fn take_fields(greatest: &[u32], bytes: &[u8]) -> Option<Fields>
+/// Puts the fields with these bytes into the list: false where one is over its greatest value, or a
+/// bit after the last is not zero.
+pub fn take_fields(greatest: &[u32], bytes: &[u8], fields: &mut Fields) -> bool
     requires few { length greatest.now ≤ 165 }
     requires long { length bytes.now ≡ (sum_by width greatest.now + 7) / 8 }
-    ensures { MatchOption result ((fields : List ℕ)
-        → ¬ AreFields greatest.now bytes.now fields) (λ fields. AreFields greatest.now bytes.now fields.items) }
+    requires none { fields.old.items ≡ [] }
+    ensures { MatchBool result (AreFields greatest.now bytes.now fields.new.items) ((fields : List ℕ)
+        → ¬ AreFields greatest.now bytes.now fields) }
 {
     let mut reader = Reader {
         next: 0,
         held: 0,
         count: 0,
     };
-    let mut fields = Fields::new();
     for most in greatest {
         let value = take(bytes, &mut reader, width_of(*most));
         if value > *most {
-            return None;
+            return false;
         }
         fields.push(value);
     }
-    if reader.held != 0 {
-        return None;
-    }
-    Some(fields)
+    reader.held == 0
 }

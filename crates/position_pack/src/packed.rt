@@ -151,7 +151,8 @@ impl Packing {
             width_of(u32::from(self.actions)),
             u32::from(at.place),
         );
-        finish(writer)
+        finish(&mut writer);
+        writer.bytes
     }
 
     /// The same by a list of all fields, whatever the position.
@@ -169,7 +170,10 @@ impl Packing {
         if bytes.len() != bits_in(&self.greatest).div_ceil(8) {
             return None;
         }
-        let fields = take_fields(&self.greatest, bytes)?;
+        let mut fields = Fields::new();
+        if !take_fields(&self.greatest, bytes, &mut fields) {
+            return None;
+        }
         position_of(&fields, usize::from(self.vertices))
     }
 

@@ -61,15 +61,15 @@ fn put_held(writer: &mut Writer)
     writer.count = count;
 }
 
-/// The bytes, with zeros after the last bit.
-pub fn finish(mut writer: Writer) -> Packed
-    requires writer { IsWriter writer }
-    requires room { length (written writer) ≤ 1920 }
-    ensures { result.items ≡ bytes_of_bits (written writer) }
+/// Writes what is held, with zeros after the last bit.
+#[inline(always)]
+pub fn finish(writer: &mut Writer)
+    requires writer { IsWriter writer.old }
+    requires room { length (written writer.old) ≤ 1920 }
+    ensures { writer.new.bytes.items ≡ bytes_of_bits (written writer.old) }
 {
-    put_held(&mut writer);
-    put_last(&mut writer);
-    writer.bytes
+    put_held(writer);
+    put_last(writer);
 }
 
 /// Writes the bits that wait, with zeros after them, if there are any.

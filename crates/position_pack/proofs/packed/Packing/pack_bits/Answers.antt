@@ -20,7 +20,8 @@ put_piece_bits-requires-clause-room c =
     let piece : c.width_of-piece.result ≡ width (s.pieces - 1) = c.width_of-piece.ensures.is ∙ ap width c.from-2.ensures in
     let ps = ap length c.deref.ensures.0 in
     let pieces : length c.deref.result.now ≡ s.vertices = omega (arith, ps, c.len.ensures.value, c.from.ensures, c.if-len-from.false) in
-    let product : length c.deref.result.now * c.width_of-piece.result ≡ s.vertices * width (s.pieces - 1) = ap (λ n. n * c.width_of-piece.result) pieces ∙ ap (λ n. s.vertices * n) piece in
+    let product : length c.deref.result.now * c.width_of-piece.result ≡ s.vertices * width (s.pieces - 1) =
+    ap (λ n. n * c.width_of-piece.result) pieces ∙ ap (λ n. s.vertices * n) piece in
     omega (arith, most, parts, none, product)
 
 pub put_fields-requires-clause-room : goal.put_fields-requires-clause-room
@@ -32,8 +33,11 @@ put_fields-requires-clause-room c =
     let piece : c.width_of-piece.result ≡ width (s.pieces - 1) = c.width_of-piece.ensures.is ∙ ap width c.from-2.ensures in
     let ps = ap length c.deref.ensures.0 in
     let pieces : length c.deref.result.now ≡ s.vertices = omega (arith, ps, c.len.ensures.value, c.from.ensures, c.if-len-from.false) in
-    let product : length c.deref.result.now * c.width_of-piece.result ≡ s.vertices * width (s.pieces - 1) = ap (λ n. n * c.width_of-piece.result) pieces ∙ ap (λ n. s.vertices * n) piece in
-    let first = ap length c.put_piece_bits.ensures.bits ∙ length-append (written c.new_writer-writer.result) (flat_map (bits_of c.width_of-piece.result) c.deref.result.now) in
+    let product : length c.deref.result.now * c.width_of-piece.result ≡ s.vertices * width (s.pieces - 1) =
+    ap (λ n. n * c.width_of-piece.result) pieces ∙ ap (λ n. s.vertices * n) piece in
+    let first =
+    ap length c.put_piece_bits.ensures.bits
+    ∙ length-append (written c.new_writer-writer.result) (flat_map (bits_of c.width_of-piece.result) c.deref.result.now) in
     let all = length-piece_bits c.width_of-piece.result c.deref.result.now in
     let bounds = ap (sum_by width) c.deref-2.ensures.0 in
     omega (arith, most, parts, none, product, first, all, bounds)
@@ -47,11 +51,16 @@ put-requires-clause-room c =
     let piece : c.width_of-piece.result ≡ width (s.pieces - 1) = c.width_of-piece.ensures.is ∙ ap width c.from-2.ensures in
     let ps = ap length c.deref.ensures.0 in
     let pieces : length c.deref.result.now ≡ s.vertices = omega (arith, ps, c.len.ensures.value, c.from.ensures, c.if-len-from.false) in
-    let product : length c.deref.result.now * c.width_of-piece.result ≡ s.vertices * width (s.pieces - 1) = ap (λ n. n * c.width_of-piece.result) pieces ∙ ap (λ n. s.vertices * n) piece in
-    let first = ap length c.put_piece_bits.ensures.bits ∙ length-append (written c.new_writer-writer.result) (flat_map (bits_of c.width_of-piece.result) c.deref.result.now) in
+    let product : length c.deref.result.now * c.width_of-piece.result ≡ s.vertices * width (s.pieces - 1) =
+    ap (λ n. n * c.width_of-piece.result) pieces ∙ ap (λ n. s.vertices * n) piece in
+    let first =
+    ap length c.put_piece_bits.ensures.bits
+    ∙ length-append (written c.new_writer-writer.result) (flat_map (bits_of c.width_of-piece.result) c.deref.result.now) in
     let all = length-piece_bits c.width_of-piece.result c.deref.result.now in
     let bounds = ap (sum_by width) c.deref-2.ensures.0 in
-    let second = ap length c.put_fields.ensures.bits ∙ length-append (written c.put_piece_bits.new.writer) (field_bits c.deref-2.result.now c.deref-3.result.now) in
+    let second =
+    ap length c.put_fields.ensures.bits
+    ∙ length-append (written c.put_piece_bits.new.writer) (field_bits c.deref-2.result.now c.deref-3.result.now) in
     let values = length-field_bits c.deref-2.result.now c.deref-3.result.now in
     let vertex : c.width_of-vertex.result ≡ width (s.vertices - 1) = c.width_of-vertex.ensures.is ∙ ap width c.from-3.ensures in
     omega (arith, most, parts, none, product, first, all, bounds, second, values, vertex)
@@ -65,11 +74,16 @@ put-requires-2-clause-room c =
     let piece : c.width_of-piece.result ≡ width (s.pieces - 1) = c.width_of-piece.ensures.is ∙ ap width c.from-2.ensures in
     let ps = ap length c.deref.ensures.0 in
     let pieces : length c.deref.result.now ≡ s.vertices = omega (arith, ps, c.len.ensures.value, c.from.ensures, c.if-len-from.false) in
-    let product : length c.deref.result.now * c.width_of-piece.result ≡ s.vertices * width (s.pieces - 1) = ap (λ n. n * c.width_of-piece.result) pieces ∙ ap (λ n. s.vertices * n) piece in
-    let first = ap length c.put_piece_bits.ensures.bits ∙ length-append (written c.new_writer-writer.result) (flat_map (bits_of c.width_of-piece.result) c.deref.result.now) in
+    let product : length c.deref.result.now * c.width_of-piece.result ≡ s.vertices * width (s.pieces - 1) =
+    ap (λ n. n * c.width_of-piece.result) pieces ∙ ap (λ n. s.vertices * n) piece in
+    let first =
+    ap length c.put_piece_bits.ensures.bits
+    ∙ length-append (written c.new_writer-writer.result) (flat_map (bits_of c.width_of-piece.result) c.deref.result.now) in
     let all = length-piece_bits c.width_of-piece.result c.deref.result.now in
     let bounds = ap (sum_by width) c.deref-2.ensures.0 in
-    let second = ap length c.put_fields.ensures.bits ∙ length-append (written c.put_piece_bits.new.writer) (field_bits c.deref-2.result.now c.deref-3.result.now) in
+    let second =
+    ap length c.put_fields.ensures.bits
+    ∙ length-append (written c.put_piece_bits.new.writer) (field_bits c.deref-2.result.now c.deref-3.result.now) in
     let values = length-field_bits c.deref-2.result.now c.deref-3.result.now in
     let vertex : c.width_of-vertex.result ≡ width (s.vertices - 1) = c.width_of-vertex.ensures.is ∙ ap width c.from-3.ensures in
     let third = ap length c.put.ensures.bits ∙ length-append (written c.put_fields.new.writer) (bits_of c.width_of-vertex.result c.from-4.result) in
@@ -86,11 +100,16 @@ put-requires-3-clause-room c =
     let piece : c.width_of-piece.result ≡ width (s.pieces - 1) = c.width_of-piece.ensures.is ∙ ap width c.from-2.ensures in
     let ps = ap length c.deref.ensures.0 in
     let pieces : length c.deref.result.now ≡ s.vertices = omega (arith, ps, c.len.ensures.value, c.from.ensures, c.if-len-from.false) in
-    let product : length c.deref.result.now * c.width_of-piece.result ≡ s.vertices * width (s.pieces - 1) = ap (λ n. n * c.width_of-piece.result) pieces ∙ ap (λ n. s.vertices * n) piece in
-    let first = ap length c.put_piece_bits.ensures.bits ∙ length-append (written c.new_writer-writer.result) (flat_map (bits_of c.width_of-piece.result) c.deref.result.now) in
+    let product : length c.deref.result.now * c.width_of-piece.result ≡ s.vertices * width (s.pieces - 1) =
+    ap (λ n. n * c.width_of-piece.result) pieces ∙ ap (λ n. s.vertices * n) piece in
+    let first =
+    ap length c.put_piece_bits.ensures.bits
+    ∙ length-append (written c.new_writer-writer.result) (flat_map (bits_of c.width_of-piece.result) c.deref.result.now) in
     let all = length-piece_bits c.width_of-piece.result c.deref.result.now in
     let bounds = ap (sum_by width) c.deref-2.ensures.0 in
-    let second = ap length c.put_fields.ensures.bits ∙ length-append (written c.put_piece_bits.new.writer) (field_bits c.deref-2.result.now c.deref-3.result.now) in
+    let second =
+    ap length c.put_fields.ensures.bits
+    ∙ length-append (written c.put_piece_bits.new.writer) (field_bits c.deref-2.result.now c.deref-3.result.now) in
     let values = length-field_bits c.deref-2.result.now c.deref-3.result.now in
     let vertex : c.width_of-vertex.result ≡ width (s.vertices - 1) = c.width_of-vertex.ensures.is ∙ ap width c.from-3.ensures in
     let third = ap length c.put.ensures.bits ∙ length-append (written c.put_fields.new.writer) (bits_of c.width_of-vertex.result c.from-4.result) in
@@ -110,11 +129,16 @@ finish-requires-clause-room c =
     let piece : c.width_of-piece.result ≡ width (s.pieces - 1) = c.width_of-piece.ensures.is ∙ ap width c.from-2.ensures in
     let ps = ap length c.deref.ensures.0 in
     let pieces : length c.deref.result.now ≡ s.vertices = omega (arith, ps, c.len.ensures.value, c.from.ensures, c.if-len-from.false) in
-    let product : length c.deref.result.now * c.width_of-piece.result ≡ s.vertices * width (s.pieces - 1) = ap (λ n. n * c.width_of-piece.result) pieces ∙ ap (λ n. s.vertices * n) piece in
-    let first = ap length c.put_piece_bits.ensures.bits ∙ length-append (written c.new_writer-writer.result) (flat_map (bits_of c.width_of-piece.result) c.deref.result.now) in
+    let product : length c.deref.result.now * c.width_of-piece.result ≡ s.vertices * width (s.pieces - 1) =
+    ap (λ n. n * c.width_of-piece.result) pieces ∙ ap (λ n. s.vertices * n) piece in
+    let first =
+    ap length c.put_piece_bits.ensures.bits
+    ∙ length-append (written c.new_writer-writer.result) (flat_map (bits_of c.width_of-piece.result) c.deref.result.now) in
     let all = length-piece_bits c.width_of-piece.result c.deref.result.now in
     let bounds = ap (sum_by width) c.deref-2.ensures.0 in
-    let second = ap length c.put_fields.ensures.bits ∙ length-append (written c.put_piece_bits.new.writer) (field_bits c.deref-2.result.now c.deref-3.result.now) in
+    let second =
+    ap length c.put_fields.ensures.bits
+    ∙ length-append (written c.put_piece_bits.new.writer) (field_bits c.deref-2.result.now c.deref-3.result.now) in
     let values = length-field_bits c.deref-2.result.now c.deref-3.result.now in
     let vertex : c.width_of-vertex.result ≡ width (s.vertices - 1) = c.width_of-vertex.ensures.is ∙ ap width c.from-3.ensures in
     let third = ap length c.put.ensures.bits ∙ length-append (written c.put_fields.new.writer) (bits_of c.width_of-vertex.result c.from-4.result) in
