@@ -13,7 +13,7 @@ ghost use Rattle.legal_moves.specs.aid.Looking.{TellsAt};
 ghost use Rattle.legal_moves.specs.aid.Standing.{configurations_of, AreKept, IsShown};
 
 use crate::answers::Answer;
-use crate::copies::copied_state;
+use crate::copies::{copy_state, empty_state};
 use crate::effect::{Glance, glance_where_seen};
 use crate::fault::MoveFault;
 use crate::found::{Found, Shown, Stand};
@@ -59,8 +59,9 @@ impl Searcher<'_> {
         let mut found = Found::begun(self.alloc, &mut room.founds, state)?;
         let mut here = Shown {
             at: 0,
-            state: copied_state(state),
+            state: empty_state(),
         };
+        copy_state(state, &mut here.state);
         let mut at = 0;
         while at < found.stands.len() {
             self.expand(room, index, place, &mut found, at, &mut here)?;
