@@ -1,9 +1,8 @@
-use Rattle.std.proofs.Common.{◌≡◌, ◌≤◌, Bool, true, false, refl, sym, ap, ◌∙◌, subst, arith, slice_index, slice_set, pos, w64, to_z, of_z}
+use Rattle.std.proofs.Common.{◌≡◌, ◌≤◌, Bool, true, false, refl, sym, ap, ◌∙◌, subst, slice_index, pos, w64, to_z, of_z}
 use Rattle.std.specs.Bool.{OnTrue}
 use Rattle.std.proofs.lemmas.Bool.{eqb-true}
 use Rattle.std.proofs.lemmas.Int.{to_z-of_z}
 use Rattle.std.proofs.lemmas.List.{set-get_or}
-use mir.Val.{SFits}
 use Rattle.rbg_game.specs.Expressions.{value_of}
 use Rattle.rbg_game.specs.Games.{bound_of}
 use Rattle.rbg_game.specs.Meaning.{game_of, action_of, expression_of}

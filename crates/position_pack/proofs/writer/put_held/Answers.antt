@@ -1,10 +1,7 @@
 use Rattle.std.proofs.Common.{◌≡◌, ℕ, ◌+◌, ◌*◌, ◌/◌, ◌%◌, ◌-◌, ◌^◌, ◌<◌, ◌++◌, length, get_or, refl, ap, sym, ◌∙◌, subst, arith}
-use Rattle.std.proofs.lemmas.List.{length-append}
 use Rattle.position_pack.specs.Bits.{bits_of}
-use Rattle.position_pack.specs.aid.Streams.{written}
-use Rattle.position_pack.proofs.BitLemmas.{length-bits}
 use Rattle.position_pack.proofs.ByteLemmas.{all_bits, low_push}
-use Rattle.position_pack.proofs.ShiftLemmas.{high_low, shifted, one_shifted, below_power, high_bits, put_behind, byte_out, length-written}
+use Rattle.position_pack.proofs.ShiftLemmas.{one_shifted, below_power, high_bits, byte_out, length-written}
 use Rattle.position_pack.proofs.writer.put_held.Goals as goal
 
 pub loop-count-init : goal.loop-count-init

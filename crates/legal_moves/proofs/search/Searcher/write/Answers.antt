@@ -1,22 +1,17 @@
-use Rattle.std.proofs.Common.{◌≡◌, ◌-◌, ◌≤◌, true, inl, length, Some, slice_get, refl, sym, ap, ◌∙◌, subst, arith}
+use Rattle.std.proofs.Common.{◌≡◌, ◌-◌, ◌≤◌, true, length, Some, slice_get, refl, sym, ap, ◌∙◌, subst, arith}
 use Rattle.std.proofs.lemmas.Result.{on_ok_weaker}
 use Rattle.rbg_game.specs.Meaning.{game_of, action_of}
 use Rattle.rbg_game.proofs.MeaningLemmas.{action_of-Switch}
 use Rattle.rbg_game.specs.Positions.{IsStateOf}
-use Rattle.rbg_game.specs.declared.position.SemiState.{SemiState}
 use Rattle.legal_moves.specs.Effects.{Effect, EffectAt}
 use Rattle.legal_moves.specs.aid.Boards.{at_turn, board_at, boards_in}
 use Rattle.legal_moves.specs.aid.Configurations.{expression_at}
-use Rattle.legal_moves.specs.aid.Going.{state_at}
-use Rattle.legal_moves.specs.aid.Standing.{configurations_of}
 use Rattle.legal_moves.specs.aid.Seen.{state_seen}
 use Rattle.legal_moves.specs.declared.found.Stand.{Stand}
-use Rattle.legal_moves.proofs.ReadyLemmas.{read_at, count_steps, act_plain, act_valid, act_refused, ask_pattern, switches_is, modifies_is, OnTrue-at, OnFalse-at}
-use Rattle.legal_moves.proofs.Exits.{refused, no_error}
+use Rattle.legal_moves.proofs.ReadyLemmas.{read_at, count_steps, act_plain, act_valid, ask_pattern, switches_is, modifies_is, OnTrue-at}
 use Rattle.legal_moves.proofs.AttemptLemmas.{state_there, attempted, filled}
 use Rattle.legal_moves.proofs.BoardLemmas.{many_boards}
-use Rattle.legal_moves.proofs.WriteLemmas.{effect_of_switch, fits_on}
-use Rattle.legal_moves.proofs.Faults.{for_want}
+use Rattle.legal_moves.proofs.WriteLemmas.{effect_of_switch}
 use Rattle.legal_moves.proofs.search.Searcher.write.Goals as goal
 
 pub step-step-requires-clause-upto : goal.step-step-requires-clause-upto

@@ -1,11 +1,10 @@
-use Rattle.std.proofs.Common.{◌≡◌, ◌-◌, ◌≤◌, true, inl, length, Some, slice_get, refl, sym, ap, ◌∙◌, subst, arith}
+use Rattle.std.proofs.Common.{◌≡◌, ◌-◌, ◌≤◌, inl, length, Some, slice_get, refl, sym, ◌∙◌, subst, arith}
 use Rattle.std.proofs.lemmas.Result.{on_ok_weaker}
-use Rattle.rbg_game.specs.Meaning.{game_of, action_of}
-use Rattle.rbg_game.proofs.MeaningLemmas.{action_of-Switch}
+use Rattle.rbg_game.specs.Meaning.{game_of}
 use Rattle.rbg_game.specs.Positions.{IsStateOf}
 use Rattle.rbg_game.specs.declared.position.SemiState.{SemiState}
 use Rattle.legal_moves.specs.Effects.{EffectAt}
-use Rattle.legal_moves.specs.aid.Boards.{at_turn, board_at, boards_in}
+use Rattle.legal_moves.specs.aid.Boards.{boards_in}
 use Rattle.legal_moves.specs.aid.Configurations.{expression_at}
 use Rattle.legal_moves.specs.aid.Going.{state_at}
 use Rattle.legal_moves.specs.aid.Standing.{configurations_of}
@@ -14,7 +13,7 @@ use Rattle.legal_moves.proofs.ReadyLemmas.{read_at, count_steps, act_plain, act_
 use Rattle.legal_moves.proofs.Exits.{refused, no_error}
 use Rattle.legal_moves.proofs.AttemptLemmas.{state_there, attempted, filled}
 use Rattle.legal_moves.proofs.BoardLemmas.{many_boards}
-use Rattle.legal_moves.proofs.WriteLemmas.{effect_of_switch, fits_on}
+use Rattle.legal_moves.proofs.WriteLemmas.{fits_on}
 use Rattle.legal_moves.proofs.Faults.{for_want}
 use Rattle.legal_moves.proofs.search.Searcher.write_anew.Goals as goal
 
