@@ -8,7 +8,7 @@ use Rattle.legal_moves.specs.Tables.{inner_of, AreSame}
 use Rattle.legal_moves.specs.aid.Configurations.{expression_at}
 use Rattle.legal_moves.specs.aid.Going.{began, state_at}
 use Rattle.legal_moves.specs.aid.Answers.{IsAnswerAt}
-use Rattle.legal_moves.specs.declared.search.Answer.{Answer}
+use Rattle.legal_moves.specs.declared.answers.Answer.{Answer}
 use Rattle.legal_moves.proofs.GetLemmas.{slice_get-append, slice_get-within}
 
 -- the expression that a number names is the one at its place

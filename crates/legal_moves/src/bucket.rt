@@ -1,5 +1,5 @@
 //! The bucket by which a search finds again what it has kept.
-ghost use Rattle.std.specs.Prelude.{◌≡◌, ◌<◌, fold};
+ghost use Rattle.std.specs.Prelude.{◌≡◌, ◌+◌, ◌≤◌, ◌<◌, fold, length, slice_index};
 ghost use Rattle.legal_moves.specs.aid.Buckets.{mixed, bucket_of_board, bucket_of_stand};
 
 use crate::chains::BUCKETS;
@@ -36,7 +36,37 @@ fn hash_of_pieces(pieces: &[u8]) -> usize
     ensures is { result ≡ fold mixed 0 pieces.now }
     ensures small { result < 65536 }
 {
+    let fours = pieces.len() / 4;
     let mut hash = 0;
+    for four in 0..fours {
+        hash = four_mixed(hash, pieces, 4 * four);
+    }
+    hash_of_last(hash, &pieces[4 * fours..])
+}
+
+/// The next four pieces mixed into a hash at once: none of the products waits for another.
+fn four_mixed(hash: usize, pieces: &[u8], at: usize) -> usize
+    requires hash { hash < 65536 }
+    requires there { at + 4 ≤ length pieces.now }
+    ensures is { result ≡ mixed (mixed (mixed (mixed hash (slice_index pieces.now at)) (slice_index pieces.now (at + 1)))
+        (slice_index pieces.now (at + 2))) (slice_index pieces.now (at + 3)) }
+    ensures small { result < 65536 }
+{
+    (hash * 923_521
+        + usize::from(pieces[at]) * 29_791
+        + usize::from(pieces[at + 1]) * 961
+        + usize::from(pieces[at + 2]) * 31
+        + usize::from(pieces[at + 3]))
+        % 65536
+}
+
+/// With the hash of what comes before these pieces.
+fn hash_of_last(before: usize, pieces: &[u8]) -> usize
+    requires { before < 65536 }
+    ensures is { result ≡ fold mixed before pieces.now }
+    ensures small { result < 65536 }
+{
+    let mut hash = before;
     for piece in pieces {
         hash = mixed_with(hash, usize::from(*piece));
     }

@@ -185,9 +185,15 @@ impl Compiled {
     fn room(&self, alloc: Global) -> Result<Box<Room>, AllocError> {
         match self.room.take() {
             Some(room) => Ok(room),
-            None => Ok(Box::new(alloc, Room::new(alloc))?),
+            None => new_room(alloc),
         }
     }
+}
+
+/// New room: a function of its own, since a call pays for all the room that its function may need.
+#[inline(never)]
+fn new_room(alloc: Global) -> Result<Box<Room>, AllocError> {
+    Ok(Box::new(alloc, Room::new(alloc))?)
 }
 
 impl GameGraph for Compiled {

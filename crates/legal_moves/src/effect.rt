@@ -164,3 +164,18 @@ pub(crate) fn glance_where_seen(game: &Game, action: &Action, here: Seen<'_>) ->
         Action::Pattern(_, _) => unreachable!(),
     }
 }
+
+/// Whether the action writes what is there already, so that it leaves all as it is.
+pub(crate) fn leaves(game: &Game, action: &Action, here: Seen<'_>) -> bool
+    requires state { IsStateOf (game_of game.now) (state_seen here) }
+    requires plain { IsPlain here.values.now (action_of action.now) }
+    ensures { OnTrue result (Effect (game_of game.now) (action_of action.now) (state_seen here.entry) (state_seen here.entry)) }
+{
+    match action {
+        Action::Off(piece) => here.pieces[usize::from(here.vertex)] == *piece,
+        Action::Assignment(variable, right) => {
+            value(right, here.values) == i64::from(here.values[usize::from(*variable)])
+        }
+        _ => false,
+    }
+}

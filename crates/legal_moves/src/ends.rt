@@ -50,7 +50,8 @@ fn packed_ends(
             continue;
         }
         put_position(boards, *stand, &mut at);
-        ends.push(packing.pack(&at))?;
+        ends.reserve(1)?;
+        ends.push_reserved(packing.pack(&at));
     }
     Ok(ends)
 }

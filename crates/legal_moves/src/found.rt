@@ -90,6 +90,14 @@ impl Found {
         if let Some(over) = spare.pop() {
             return over.emptied(state);
         }
+        Found::new(alloc, state)
+    }
+
+    /// Nothing found, in new room: a function of its own, since a call pays for all the room that its function may need.
+    #[inline(never)]
+    fn new(alloc: Global, state: &SemiState) -> Result<Found, AllocError>
+        ensures { IfOk result (λ found. IsEmpty found state.now) }
+    {
         Ok(Found {
             boards: Boards::new(alloc, state)?,
             stands: Vec::with_capacity(alloc, ROOM)?,

@@ -2,6 +2,7 @@
 #![tactic(auto)]
 
 mod actions;
+mod answers;
 mod boards;
 mod bucket;
 mod chains;

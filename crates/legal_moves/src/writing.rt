@@ -8,7 +8,7 @@ ghost use Rattle.legal_moves.specs.aid.Going.{state_at, IsTried, IsFull};
 ghost use Rattle.legal_moves.specs.aid.Looking.{IsNoPattern};
 ghost use Rattle.legal_moves.specs.aid.Standing.{configurations_of, AreKept};
 
-use crate::effect::act;
+use crate::effect::{act, leaves};
 use crate::fault::MoveFault;
 use crate::found::{Found, Stand};
 use crate::room::Room;
@@ -61,6 +61,53 @@ impl Searcher<'_> {
                 ends: step.is_switch(),
             });
         }
+        if leaves(self.game, action, found.boards.seen(board, mover, vertex)) {
+            return found.add(Stand {
+                board,
+                mover,
+                vertex,
+                place: number,
+                parent: at,
+                shows: step.is_modifier(),
+                ends: step.is_switch(),
+            });
+        }
+        self.write_anew(room, index, found, at, number)
+    }
+
+    /// The same by a copy of the board, on which the action is carried out.
+    fn write_anew(
+        &self,
+        room: &mut Room,
+        index: usize,
+        found: &mut Found,
+        at: usize,
+        number: u16,
+    ) -> Result<(), MoveFault>
+        requires ready { IsReady (game_of self.now.game.now) self.now.tables.now index }
+        requires at { at < length found.old.stands.items }
+        requires kept { AreKept found.old }
+        requires state { IsStateOf (game_of self.now.game.now) (state_at (configurations_of found.old) at) }
+        requires from { 1 ≤ number }
+        requires upto { number ≤ count (expression_at (game_of self.now.game.now) index) }
+        requires writes { IsNoPattern (action_at (expression_at (game_of self.now.game.now) index) 1 number) }
+        ensures kept { OnOk result (AreKept found.new) }
+        ensures tried { let game = game_of self.now.game.now in let e = expression_at game index in OnOk result
+            (IsTried game e number at (configurations_of found.old) (configurations_of found.new)) }
+        ensures wide { let game = game_of self.now.game.now in let e = expression_at game index in result ≡ Err MoveFault.TooWide
+            → IsFull game e number at (configurations_of found.old) }
+    {
+        let Stand {
+            board,
+            mover,
+            vertex,
+            ..
+        } = found.stands[at];
+        let step = self.tables[index].step(number);
+        let action = match step {
+            Step::Act(action) => action,
+            Step::Ask(_, _) => unreachable!(),
+        };
         let there = &mut room.state;
         found.boards.put(board, mover, vertex, there);
         if !act(self.game, action, there) {

@@ -8,6 +8,7 @@ pub mod FieldLemmas
 pub mod ShiftLemmas
 pub mod ReadLemmas
 pub mod PartFields
+pub mod PieceBits
 pub mod NumberLemmas
 pub mod PackingLemmas
 pub mod TextLemmas

@@ -1,17 +1,18 @@
 //! The fields of a position as numbers, and their bits.
 
-ghost use Rattle.std.specs.Prelude.{◌≡◌, ◌+◌, ◌-◌, ◌*◌, ◌/◌, ◌≤◌, ◌<◌, ◌++◌, ℕ, List, length, slice_index, MatchOption};
-ghost use Rattle.std.specs.List.{sum_by};
+ghost use Rattle.std.specs.Prelude.{◌≡◌, ◌+◌, ◌-◌, ◌*◌, ◌/◌, ◌≤◌, ◌<◌, ◌++◌, ℕ, List, [], length, slice_index, MatchBool, MatchOption};
+ghost use Rattle.std.specs.List.{flat_map, sum_by};
 ghost use Rattle.arrayvec.specs.ArrayVec.{array_vec_len};
 ghost use Rattle.position_pack.specs.Fields as spec;
 ghost use Rattle.position_pack.specs.Bits as bits;
-ghost use Rattle.position_pack.specs.Bits.{width, field_bits, bytes_of_bits};
+ghost use Rattle.position_pack.specs.Bits.{width, bits_of, field_bits, bytes_of_bits};
 ghost use Rattle.position_pack.specs.aid.Bits.{AreFields, IsFieldsOf, AreInRange};
+ghost use Rattle.position_pack.specs.aid.Streams.{written, IsWriter};
 
 use crate::packed::Packed;
 use crate::parts::{role_byte, role_of};
 use crate::reader::{Reader, take};
-use crate::writer::{finish, new_writer, put};
+use crate::writer::{Writer, finish, new_writer, put};
 use arrayvec::ArrayVec;
 use rbg_game::position::{Position, SemiState};
 
@@ -91,75 +92,99 @@ pub fn position_of(fields: &[u32], vertices: usize) -> Option<Position>
     let vertex = last[0] as u8;
     let mover = role_of(last[1] as u8)?;
     let place = last[2] as u16;
-    Some(Position {
+    let mut at = Position {
         state: SemiState {
             mover,
-            pieces: pieces_of(pieces),
-            values: values_of(values),
+            pieces: ArrayVec::new(),
+            values: ArrayVec::new(),
             vertex,
         },
         place,
-    })
+    };
+    take_pieces(pieces, &mut at.state.pieces);
+    take_values(values, &mut at.state.values);
+    Some(at)
 }
 
-fn pieces_of(fields: &[u32]) -> ArrayVec<u8, 128>
+/// Puts the fields behind the pieces.
+fn take_pieces(fields: &[u32], pieces: &mut ArrayVec<u8, 128>)
     requires few { length fields.now ≤ 128 }
     requires low { (k : ℕ) → k < length fields.now → slice_index fields.now k < 256 }
-    ensures { result.items ≡ fields.now }
+    requires none { pieces.old.items ≡ [] }
+    ensures { pieces.new.items ≡ fields.now }
 {
-    let mut pieces = ArrayVec::new();
     for field in fields {
         pieces.push(*field as u8);
     }
-    pieces
 }
 
-fn values_of(fields: &[u32]) -> ArrayVec<u32, 34>
-    requires { length fields.now ≤ 34 }
-    ensures { result.items ≡ fields.now }
+/// Puts the fields behind the values.
+fn take_values(fields: &[u32], values: &mut ArrayVec<u32, 34>)
+    requires few { length fields.now ≤ 34 }
+    requires none { values.old.items ≡ [] }
+    ensures { values.new.items ≡ fields.now }
 {
-    let mut values = ArrayVec::new();
     let _room = values.try_extend_from_slice(fields);
-    values
 }
 
 /// The bytes of fields, each in the fewest bits for its greatest value.
-pub fn put_fields(greatest: &[u32], fields: &[u32]) -> Packed
+pub fn bytes_of_fields(greatest: &[u32], fields: &[u32]) -> Packed
     requires { sum_by width greatest.now ≤ 1920 }
     ensures { result.items ≡ bytes_of_bits (field_bits greatest.now fields.now) }
 {
     let mut writer = new_writer();
-    for (index, most) in greatest.iter().enumerate() {
-        if index < fields.len() {
-            put(&mut writer, width_of(*most), fields[index]);
-        }
-    }
-    finish(writer)
+    put_fields(&mut writer, greatest, fields);
+    finish(&mut writer);
+    writer.bytes
 }
 
-/// The fields with these bytes: none where one is over its greatest value, or a bit after the last
-/// is not zero.
-pub fn take_fields(greatest: &[u32], bytes: &[u8]) -> Option<Fields>
+/// Writes fields, each in the fewest bits for its greatest value.
+pub fn put_fields(writer: &mut Writer, greatest: &[u32], fields: &[u32])
+    requires writer { IsWriter writer.old }
+    requires room { length (written writer.old) + sum_by width greatest.now ≤ 1920 }
+    ensures writer { IsWriter writer.new }
+    ensures bits { written writer.new ≡ written writer.old ++ field_bits greatest.now fields.now }
+{
+    for (index, most) in greatest.iter().enumerate() {
+        if index < fields.len() {
+            put(writer, width_of(*most), fields[index]);
+        }
+    }
+}
+
+/// Writes pieces, each in this many bits.
+pub fn put_piece_bits(writer: &mut Writer, width: u32, pieces: &[u8])
+    requires writer { IsWriter writer.old }
+    requires width { width ≤ 32 }
+    requires room { length (written writer.old) + length pieces.now * width ≤ 1920 }
+    ensures writer { IsWriter writer.new }
+    ensures bits { written writer.new ≡ written writer.old ++ flat_map (bits_of width) pieces.now }
+{
+    for piece in pieces {
+        put(writer, width, u32::from(*piece));
+    }
+}
+
+/// Puts the fields with these bytes into the list: false where one is over its greatest value, or a
+/// bit after the last is not zero.
+pub fn take_fields(greatest: &[u32], bytes: &[u8], fields: &mut Fields) -> bool
     requires few { length greatest.now ≤ 165 }
     requires long { length bytes.now ≡ (sum_by width greatest.now + 7) / 8 }
-    ensures { MatchOption result ((fields : List ℕ)
-        → ¬ AreFields greatest.now bytes.now fields) (λ fields. AreFields greatest.now bytes.now fields.items) }
+    requires none { fields.old.items ≡ [] }
+    ensures { MatchBool result (AreFields greatest.now bytes.now fields.new.items) ((fields : List ℕ)
+        → ¬ AreFields greatest.now bytes.now fields) }
 {
     let mut reader = Reader {
         next: 0,
         held: 0,
         count: 0,
     };
-    let mut fields = Fields::new();
     for most in greatest {
         let value = take(bytes, &mut reader, width_of(*most));
         if value > *most {
-            return None;
+            return false;
         }
         fields.push(value);
     }
-    if reader.held != 0 {
-        return None;
-    }
-    Some(fields)
+    reader.held == 0
 }

@@ -6,17 +6,19 @@ ghost use Rattle.rbg_game.specs.Sound.{IsSoundGame};
 ghost use Rattle.rbg_game.specs.declared.position.Position.{Position};
 ghost use Rattle.position_pack.specs.Shape.{IsSmall};
 ghost use Rattle.position_pack.specs.Bytes.{bytes_of};
-ghost use Rattle.position_pack.specs.Bits.{field_at, greatest_of as greatest_by};
+ghost use Rattle.position_pack.specs.Bits.{bytes_by_bits, field_at, greatest_of as greatest_by};
 ghost use Rattle.position_pack.specs.Packings.{form_of, packed_by, length_by, IsPacked};
 ghost use Rattle.position_pack.specs.declared.kind.PackingKind.TheVariants.{Bytes, Bits};
 
 use crate::fields::{
-    Fields, bits_in, fields_of, greatest_of, position_of, put_fields, take_fields, width_of,
+    Fields, bits_in, bytes_of_fields, fields_of, greatest_of, position_of, put_fields,
+    put_piece_bits, take_fields, width_of,
 };
 use crate::kind::PackingKind;
 use crate::limits::MAX_PACKED;
 use crate::parts::{all_below, put_bytes, put_values, role_byte, role_of, values_of, vector_of};
 use crate::reader::number_at;
+use crate::writer::{finish, new_writer, put};
 use arrayvec::ArrayVec;
 use rbg_game::count::action_count;
 use rbg_game::game::Game;
@@ -96,7 +98,7 @@ impl Packing {
     {
         match self.kind {
             PackingKind::Bytes => pack_bytes(at),
-            PackingKind::Bits => put_fields(&self.greatest, &fields_of(at)),
+            PackingKind::Bits => self.pack_bits(at),
         }
     }
 
@@ -127,6 +129,40 @@ impl Packing {
         number_at(bytes, place, width_of(self.greatest[field]))
     }
 
+    /// The bytes by bits: the pieces and the values are written where they lie.
+    fn pack_bits(&self, at: &Position) -> Packed
+        ensures { result.items ≡ bytes_by_bits self.now.shape at.now }
+    {
+        let state = &at.state;
+        if state.pieces.len() != usize::from(self.vertices)
+            || state.values.len() != self.bounds.len()
+        {
+            return self.pack_fields(at);
+        }
+        let mut writer = new_writer();
+        let piece = width_of(u32::from(self.pieces - 1));
+        put_piece_bits(&mut writer, piece, &state.pieces);
+        put_fields(&mut writer, &self.bounds, &state.values);
+        let vertex = width_of(u32::from(self.vertices - 1));
+        put(&mut writer, vertex, u32::from(state.vertex));
+        put(&mut writer, width_of(2), u32::from(role_byte(state.mover)));
+        put(
+            &mut writer,
+            width_of(u32::from(self.actions)),
+            u32::from(at.place),
+        );
+        finish(&mut writer);
+        writer.bytes
+    }
+
+    /// The same by a list of all fields, whatever the position.
+    #[inline(never)]
+    fn pack_fields(&self, at: &Position) -> Packed
+        ensures { result.items ≡ bytes_by_bits self.now.shape at.now }
+    {
+        bytes_of_fields(&self.greatest, &fields_of(at))
+    }
+
     fn unpack_bits(&self, bytes: &[u8]) -> Option<Position>
         ensures { MatchOption result ((at : Position) → ¬ IsPacked (record { kind = Bits; shape = self.now.shape }) at bytes.now)
             (λ at. IsPacked (record { kind = Bits; shape = self.now.shape }) at bytes.now) }
@@ -134,7 +170,10 @@ impl Packing {
         if bytes.len() != bits_in(&self.greatest).div_ceil(8) {
             return None;
         }
-        let fields = take_fields(&self.greatest, bytes)?;
+        let mut fields = Fields::new();
+        if !take_fields(&self.greatest, bytes, &mut fields) {
+            return None;
+        }
         position_of(&fields, usize::from(self.vertices))
     }
 

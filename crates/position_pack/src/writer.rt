@@ -1,8 +1,8 @@
 //! Bits one after another, as bytes.
 
-ghost use Rattle.std.specs.Prelude.{◌≡◌, ◌+◌, ◌^◌, ◌≤◌, ◌<◌, ◌++◌, [], length};
+ghost use Rattle.std.specs.Prelude.{◌≡◌, ◌+◌, ◌≤◌, ◌++◌, [], length};
 ghost use Rattle.position_pack.specs.Bits.{bits_of, bytes_of_bits};
-ghost use Rattle.position_pack.specs.aid.Streams.{written, IsWriter};
+ghost use Rattle.position_pack.specs.aid.Streams.{written, HoldsFewer, IsWriter};
 
 use crate::packed::Packed;
 
@@ -27,6 +27,7 @@ pub fn new_writer() -> Writer
 }
 
 /// Writes the lowest bits of a value, this many, the most significant first.
+#[inline(always)]
 pub fn put(writer: &mut Writer, width: u32, value: u32)
     requires writer { IsWriter writer.old }
     requires width { width ≤ 32 }
@@ -34,8 +35,23 @@ pub fn put(writer: &mut Writer, width: u32, value: u32)
     ensures writer { IsWriter writer.new }
     ensures bits { written writer.new ≡ written writer.old ++ bits_of width value }
 {
-    let mut held = (writer.held << width) + u64::from(value) % (1 << width);
-    let mut count = writer.count + width;
+    writer.held = (writer.held << width) + u64::from(value) % (1 << width);
+    writer.count += width;
+    if writer.count >= 32 {
+        put_held(writer);
+    }
+}
+
+/// Writes the whole bytes of what is held.
+#[inline(always)]
+fn put_held(writer: &mut Writer)
+    requires holds { HoldsFewer 64 writer.old }
+    requires room { length (written writer.old) ≤ 1920 }
+    ensures holds { HoldsFewer 8 writer.new }
+    ensures bits { written writer.new ≡ written writer.old }
+{
+    let mut held = writer.held;
+    let mut count = writer.count;
     while count >= 8 {
         count -= 8;
         writer.bytes.push((held >> count) as u8);
@@ -45,14 +61,25 @@ pub fn put(writer: &mut Writer, width: u32, value: u32)
     writer.count = count;
 }
 
-/// The bytes, with zeros after the last bit.
-pub fn finish(mut writer: Writer) -> Packed
-    requires writer { IsWriter writer }
-    requires room { length (written writer) ≤ 1920 }
-    ensures { result.items ≡ bytes_of_bits (written writer) }
+/// Writes what is held, with zeros after the last bit.
+#[inline(always)]
+pub fn finish(writer: &mut Writer)
+    requires writer { IsWriter writer.old }
+    requires room { length (written writer.old) ≤ 1920 }
+    ensures { writer.new.bytes.items ≡ bytes_of_bits (written writer.old) }
+{
+    put_held(writer);
+    put_last(writer);
+}
+
+/// Writes the bits that wait, with zeros after them, if there are any.
+#[inline(always)]
+fn put_last(writer: &mut Writer)
+    requires writer { HoldsFewer 8 writer.old }
+    requires room { length (written writer.old) ≤ 1920 }
+    ensures { writer.new.bytes.items ≡ bytes_of_bits (written writer.old) }
 {
     if writer.count > 0 {
         writer.bytes.push((writer.held << (8 - writer.count)) as u8);
     }
-    writer.bytes
 }

@@ -5,7 +5,7 @@ use Rattle.rbg_game.specs.declared.position.SemiState.{SemiState}
 use Rattle.legal_moves.specs.Searches.{IsWideFrom}
 use Rattle.legal_moves.specs.aid.Searches.{IsLegal}
 use Rattle.legal_moves.specs.aid.Configurations.{expression_at}
-use Rattle.legal_moves.specs.declared.search.Answer.{Answer}
+use Rattle.legal_moves.specs.declared.answers.Answer.{Answer}
 
 -- if an answer is kept, it is that of its pattern here, whose search is not too wide
 abbrev pub IsAnswerAt : Game → SemiState → Option Answer → Type 0

@@ -9,11 +9,15 @@ use Rattle.position_pack.specs.declared.reader.Reader.{Reader}
 abbrev pub written : Writer → List ℕ
 written w = flat_map (bits_of 8) w.bytes.items ++ bits_of w.count w.held
 
--- fewer than eight bits wait, and what is held is no more than these
-pub record IsWriter (w : Writer) : Type 0 where
-  pub few : w.count < 8
+-- fewer than n bits wait, and what is held is no more than these
+pub record HoldsFewer (n : ℕ) (w : Writer) : Type 0 where
+  pub few : w.count < n
   pub low : w.held < 2 ^ w.count
   pub bytes : (i : ℕ) → slice_index w.bytes.items i < 256
+
+-- fewer bits than four bytes have wait
+abbrev pub IsWriter : Writer → Type 0
+IsWriter w = HoldsFewer 32 w
 
 -- the bits that are left of the bytes: those that are held, and those of the next bytes
 abbrev pub left : List ℕ → Reader → List ℕ

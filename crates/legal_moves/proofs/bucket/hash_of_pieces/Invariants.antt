@@ -1,9 +1,9 @@
-use Rattle.std.proofs.Common.{◌≡◌, ◌<◌, fold, take}
+use Rattle.std.proofs.Common.{◌≡◌, ◌*◌, ◌<◌, fold, take}
 use Rattle.legal_moves.specs.aid.Buckets.{mixed}
 use Rattle.legal_moves.proofs.bucket.hash_of_pieces.Given as goal
 
-abbrev pub invariant-loop-piece : goal.invariant-loop-piece
-invariant-loop-piece l = record {
-  is : l.hash ≡ fold mixed 0 (take l.piece-index l.pieces);
+abbrev pub invariant-loop-four : goal.invariant-loop-four
+invariant-loop-four l = record {
+  is : l.hash ≡ fold mixed 0 (take (4 * l.four) l.pieces);
   small : l.hash < 65536;
 }

@@ -31,7 +31,7 @@ loop-stand-preserved c =
     let i = c.loop-stand.stand-index in
     let there = slice_get-get_or stands i _ c.loop-stand-test.true in
     let bytes = c.pack.ensures ∙ ap (packed_by form.kind form.shape) c.put_position.ensures in
-    ap (map (λ (p : ArrayVec ℕ). p.items)) c.in_ok-push.ensures.items
+    ap (map (λ (p : ArrayVec ℕ). p.items)) (c.push_reserved.ensures.items ∙ ap (λ ends. ends ++ c.pack.result ∷ []) c.in_ok-reserve.ensures.items)
     ∙ map-append (λ (p : ArrayVec ℕ). p.items) c.loop-stand.ends.items (c.pack.result ∷ [])
     ∙ ap (λ xs. xs ++ c.pack.result.items ∷ []) c.loop-stand.invariant
     ∙ ap (λ b. ends_packed form (take i cs) ++ b ∷ []) bytes

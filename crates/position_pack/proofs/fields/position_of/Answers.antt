@@ -52,9 +52,9 @@ returns c =
     let last = c.split_at-2.result.1.now in
     let role : get_or last 1 0 ≡ role_code c.in_ok-mover.mover = (c.role_of.ensures c.in_ok-mover.mover).0 was in
     record {
-      fields_are = ap (λ p. p ++ c.values_of.result.items ++ get_or last 0 0 ∷ role_code c.in_ok-mover.mover ∷ get_or last 2 0 ∷ []) c.pieces_of.ensures
-          ∙ ap (λ v. c.split_at.result.0.now ++ v ++ get_or last 0 0 ∷ role_code c.in_ok-mover.mover ∷ get_or last 2 0 ∷ []) c.values_of.ensures
+      fields_are = ap (λ p. p ++ c.take_values.new.values.items ++ get_or last 0 0 ∷ role_code c.in_ok-mover.mover ∷ get_or last 2 0 ∷ []) c.take_pieces.ensures
+          ∙ ap (λ v. c.split_at.result.0.now ++ v ++ get_or last 0 0 ∷ role_code c.in_ok-mover.mover ∷ get_or last 2 0 ∷ []) c.take_values.ensures
           ∙ ap (λ r. c.split_at.result.0.now ++ c.split_at-2.result.0.now ++ get_or last 0 0 ∷ r ∷ get_or last 2 0 ∷ []) (sym role)
           ∙ sym cut.whole;
-      pieces_fit = ap length c.pieces_of.ensures ∙ cut.pieces;
+      pieces_fit = ap length c.take_pieces.ensures ∙ cut.pieces;
     }

@@ -1,5 +1,6 @@
-use Rattle.std.proofs.Common.{◌++◌, length, take, get_or, ap, sym, ◌∙◌, subst, arith}
-use Rattle.std.proofs.lemmas.List.Sums.{sum_by_more_le, sum_by-take-le}
+use Rattle.std.proofs.Common.{◌++◌, length, take, get_or, ap, sym, ◌∙◌, subst, append_assoc, arith}
+use Rattle.std.proofs.lemmas.List.{length-append}
+use Rattle.std.proofs.lemmas.List.Sums.{sum_by_more_le}
 use Rattle.position_pack.specs.Bits.{width, bits_of, field_bits}
 use Rattle.position_pack.specs.aid.Streams.{written, IsWriter}
 use Rattle.position_pack.proofs.ReadLemmas.{field_more, field_none, length-field_bits}
@@ -11,32 +12,26 @@ put-requires-clause-room c =
     let k = c.loop-index.index in
     let so_far = length-field_bits (take k c.args.greatest.now) c.args.fields.now in
     let one = sum_by_more_le width c.args.greatest.now k 0 c.loop-index-test.true in
-    let bits = ap length c.loop-index.invariant.bits in
-    omega (arith, so_far, one, bits, c.width_of.ensures.is, c.requires)
+    let bits = ap length c.loop-index.invariant.bits ∙ length-append (written c.args.writer.now) (field_bits (take k c.args.greatest.now) c.args.fields.now) in
+    omega (arith, so_far, one, bits, c.width_of.ensures.is, c.requires.room)
 
 pub loop-index-preserved : goal.loop-index-preserved
 loop-index-preserved c =
     let k = c.loop-index.index in
     let greatest = c.args.greatest.now in
     let fields = c.args.fields.now in
+    let old = written c.args.writer.now in
     elim c.if-index-fields.branch [
       | then-index-fields w ↦
           let more = field_more greatest fields k c.loop-index-test.true w.if-index-fields.true in
           record {
             writer = subst IsWriter (sym w.writer-is) w.put.ensures.writer;
             bits = ap written w.writer-is ∙ w.put.ensures.bits ∙ ap (λ xs. xs ++ bits_of w.width_of.result (get_or fields k 0)) c.loop-index.invariant.bits
-                ∙ ap (λ n. field_bits (take k greatest) fields ++ bits_of n (get_or fields k 0)) w.width_of.ensures.is ∙ sym more;
+                ∙ append_assoc old (field_bits (take k greatest) fields) (bits_of w.width_of.result (get_or fields k 0))
+                ∙ ap (λ n. old ++ (field_bits (take k greatest) fields ++ bits_of n (get_or fields k 0))) w.width_of.ensures.is ∙ ap (λ xs. old ++ xs) (sym more);
           }
       | else-index-fields w ↦ record {
         writer = subst IsWriter (sym w.writer-is) c.loop-index.invariant.writer;
-        bits = ap written w.writer-is ∙ c.loop-index.invariant.bits ∙ sym (field_none greatest fields k w.if-index-fields.false);
+        bits = ap written w.writer-is ∙ c.loop-index.invariant.bits ∙ ap (λ xs. old ++ xs) (sym (field_none greatest fields k w.if-index-fields.false));
       }
     ]
-
-pub finish-requires-clause-room : goal.finish-requires-clause-room
-finish-requires-clause-room c =
-    let k = c.loop-index.index in
-    let so_far = length-field_bits (take k c.args.greatest.now) c.args.fields.now in
-    let all = sum_by-take-le width c.args.greatest.now k in
-    let bits = ap length c.loop-index.invariant.bits in
-    omega (arith, so_far, all, bits, c.requires)

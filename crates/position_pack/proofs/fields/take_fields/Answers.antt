@@ -1,5 +1,7 @@
-use Rattle.std.proofs.Common.{◌≡◌, ℕ, ◌+◌, ◌^◌, ◌++◌, ◌≤◌, ◌<◌, List, ◌∷◌, [], length, drop, get_or, replicate, ap, sym, ◌∙◌, subst, append_assoc, append-nil, arith}
+use Rattle.std.proofs.Common.{◌≡◌, Bool, true, false, refl, ℕ, ◌+◌, ◌^◌, ◌++◌, ◌≤◌, ◌<◌, List, ◌∷◌, [], length, drop, get_or, replicate, ap, sym, ◌∙◌, subst, append_assoc, append-nil, arith}
+use Rattle.std.specs.Prelude.{MatchBool}
 use Rattle.std.specs.List.{sum_by}
+use Rattle.std.proofs.lemmas.Bool.{eqb-true, eqb-false}
 use Rattle.std.proofs.lemmas.List.{length-append}
 use Rattle.position_pack.specs.Bits.{width, bits_of, field_bits}
 use Rattle.position_pack.specs.aid.Streams.{left}
@@ -13,11 +15,11 @@ loop-most-init c =
     let all = length-all_bits c.args.bytes.now in
     record {
       reader = record { few = omega arith; low = omega arith; within = omega arith };
-      as_many = ap length c.new-fields.ensures;
+      as_many = ap length c.requires.none;
       enough = omega (arith, all, c.requires.long);
       few = omega (arith, all, c.requires.long);
-      sound = λ ys zs behind. subst (λ xs. AreBehind c.args.greatest.now (all_bits c.args.bytes.now) (xs ++ ys) zs) (sym c.new-fields.ensures) behind;
-      complete = λ xs zs behind. (xs, ap (λ ys. ys ++ xs) (sym c.new-fields.ensures), behind);
+      sound = λ ys zs behind. subst (λ xs. AreBehind c.args.greatest.now (all_bits c.args.bytes.now) (xs ++ ys) zs) (sym c.requires.none) behind;
+      complete = λ xs zs behind. (xs, ap (λ ys. ys ++ xs) (sym c.requires.none), behind);
     }
 
 pub returns-then-value-most : goal.returns-then-value-most
@@ -58,16 +60,10 @@ loop-most-preserved c =
           (next.others, there.1 ∙ ap (λ ys. c.loop-most.fields.items ++ ys) next.begins ∙ sym (longer next.others), next.behind);
     }
 
-pub returns-then-reader-ne0 : goal.returns-then-reader-ne0
-returns-then-reader-ne0 c = λ fields are.
-    let greatest = c.args.greatest.now in
-    let k = c.loop-most.most-index in
-    let r = c.loop-most.reader in
-    let last : length greatest ≤ k = omega (arith, c.loop-most-test.false) in
-    let none : sum_by width (drop k greatest) ≡ 0 = none_summed greatest k last in
-    let held = left_held c.args.bytes.now r.next r.count r.held (omega (arith, c.loop-most.invariant.few, none)) in
-    let there = c.loop-most.invariant.complete fields _ (all_behind greatest c.args.bytes.now fields are) in
-    c.if-reader-ne0.true (held_zero greatest (left c.args.bytes.now r) there.0 k r.count r.held (zeros_behind (field_bits greatest fields)) last c.loop-most.invariant.reader.low held there.2)
+-- by the answer of a test
+choose : {A B : Type 0} (b : Bool) → (b ≡ true → A) → (b ≡ false → B) → MatchBool b A B
+choose true h k = h refl
+choose false h k = k refl
 
 pub returns : goal.returns
 returns c =
@@ -78,7 +74,11 @@ returns c =
     let none : sum_by width (drop k greatest) ≡ 0 = none_summed greatest k last in
     let held = left_held c.args.bytes.now r.next r.count r.held (omega (arith, c.loop-most.invariant.few, none)) in
     let bits = left c.args.bytes.now r in
-    let zeros : bits ≡ replicate r.count 0 = held ∙ ap (bits_of r.count) c.if-reader-ne0.false ∙ bits-zero r.count in
+    choose _ (λ is.
+    let zeros : bits ≡ replicate r.count 0 = held ∙ ap (bits_of r.count) (eqb-true r.held 0 is) ∙ bits-zero r.count in
     let all = c.loop-most.invariant.sound [] bits (none_behind greatest bits k last) in
     let fields = subst (λ xs. AreBehind greatest (all_bits c.args.bytes.now) xs bits) (append-nil c.loop-most.fields.items) all in
-    read_all greatest c.args.bytes.now c.loop-most.fields.items bits r.count (λ i. omega (arith, c.type_inv.bytes i)) c.loop-most.invariant.reader.few zeros fields
+    read_all greatest c.args.bytes.now c.loop-most.fields.items bits r.count (λ i. omega (arith, c.type_inv.bytes i)) c.loop-most.invariant.reader.few zeros fields)
+    (λ isnt fields are.
+    let there = c.loop-most.invariant.complete fields _ (all_behind greatest c.args.bytes.now fields are) in
+    eqb-false r.held 0 isnt (held_zero greatest bits there.0 k r.count r.held (zeros_behind (field_bits greatest fields)) last c.loop-most.invariant.reader.low held there.2))

@@ -1,56 +1,52 @@
-use Rattle.std.proofs.Common.{◌≡◌, ℕ, ◌+◌, ◌*◌, ◌/◌, ◌%◌, ◌-◌, ◌^◌, ◌<◌, ◌++◌, length, get_or, ap, sym, ◌∙◌, subst, arith}
+use Rattle.std.proofs.Common.{◌≡◌, ℕ, ◌+◌, ◌*◌, ◌%◌, ◌^◌, ◌<◌, ◌≤◌, ◌++◌, length, ap, ◌∙◌, sym, subst, arith}
 use Rattle.std.proofs.lemmas.List.{length-append}
 use Rattle.position_pack.specs.Bits.{bits_of}
-use Rattle.position_pack.specs.aid.Streams.{written}
+use Rattle.position_pack.specs.aid.Streams.{written, HoldsFewer, IsWriter}
+use Rattle.position_pack.specs.declared.writer.Writer.{Writer}
 use Rattle.position_pack.proofs.BitLemmas.{length-bits}
-use Rattle.position_pack.proofs.ByteLemmas.{all_bits, low_push}
-use Rattle.position_pack.proofs.ShiftLemmas.{high_low, shifted, one_shifted, below_power, high_bits, put_behind, byte_out, length-written}
+use Rattle.position_pack.proofs.ShiftLemmas.{high_low, shifted, one_shifted, below_power, put_behind}
 use Rattle.position_pack.proofs.writer.put.Goals as goal
 
-pub loop-count-init : goal.loop-count-init
-loop-count-init c =
-    let w = c.args.width in
-    let held = c.args.writer.now.held in
-    let count = c.args.writer.now.count in
-    let one : 1 * 2 ^ w % 18446744073709551616 ≡ 2 ^ w = one_shifted w (omega (arith, c.requires.width)) in
-    let low : c.from.result % 2 ^ w < 2 ^ w = below_power c.from.result w in
-    let number : held * 2 ^ w % 18446744073709551616 + c.from.result % (1 * 2 ^ w % 18446744073709551616) ≡ held * 2 ^ w + c.from.result % 2 ^ w =
-    ap (λ n. n + c.from.result % (1 * 2 ^ w % 18446744073709551616)) (shifted held count w c.requires.writer.low (omega (arith, c.requires.width, c.requires.writer.few))) ∙ ap (λ n. held * 2 ^ w + c.from.result % n) one in
-    let value : held * 2 ^ w + c.from.result % 2 ^ w ≡ held * 2 ^ w + c.args.value % 2 ^ w = ap (λ n. held * 2 ^ w + n % 2 ^ w) c.from.ensures in
+-- the writer that holds the value's bits too
+abbrev holding : Writer → ℕ → ℕ → Writer
+holding W w n = record { bytes = W.bytes; held = n; count = W.count + w }
+
+record Held (W : Writer) (w value n : ℕ) : Type 0 where
+  holds : HoldsFewer 64 (holding W w n)
+  bits : written (holding W w n) ≡ written W ++ bits_of w value
+
+held : (W : Writer) (w value x : ℕ) → x ≡ value → IsWriter W → w ≤ 32 → Held W w value (W.held * 2 ^ w % 18446744073709551616 + x % (1 * 2 ^ w % 18446744073709551616))
+held W w value x same writer few =
+    let one : 1 * 2 ^ w % 18446744073709551616 ≡ 2 ^ w = one_shifted w (omega (arith, few)) in
+    let low : x % 2 ^ w < 2 ^ w = below_power x w in
+    let number : W.held * 2 ^ w % 18446744073709551616 + x % (1 * 2 ^ w % 18446744073709551616) ≡ W.held * 2 ^ w + x % 2 ^ w =
+    ap (λ n. n + x % (1 * 2 ^ w % 18446744073709551616)) (shifted W.held W.count w writer.low (omega (arith, few, writer.few))) ∙ ap (λ n. W.held * 2 ^ w + x % n) one in
     record {
-      wide = omega (arith, c.requires.width, c.requires.writer.few);
-      low = subst (λ n. n < 2 ^ (count + w)) (sym number) (high_low held (c.from.result % 2 ^ w) count w c.requires.writer.low low);
-      bytes = c.requires.writer.bytes;
-      bits = put_behind c.args.writer.now.bytes.items count w held c.args.value _ (number ∙ value);
+      holds = record {
+        few = omega (arith, few, writer.few);
+        low = subst (λ n. n < 2 ^ (W.count + w)) (sym number) (high_low W.held (x % 2 ^ w) W.count w writer.low low);
+        bytes = writer.bytes;
+      };
+      bits = put_behind W.bytes.items W.count w W.held value _ (number ∙ ap (λ n. W.held * 2 ^ w + n % 2 ^ w) same);
     }
 
-pub overflow_cast-held-in-loop-count : goal.overflow_cast-held-in-loop-count
-overflow_cast-held-in-loop-count c =
-    let d = c.loop-count.count - 8 in
-    let many : c.loop-count.count ≡ 8 + d = omega (arith, c.loop-count-test.true) in
-    let small : c.loop-count.held / 2 ^ d < 2 ^ 8 = high_bits c.loop-count.held 8 d (subst (λ n. c.loop-count.held < 2 ^ n) many c.loop-count.invariant.low) in
-    omega (arith, small)
+pub put_held-requires-clause-holds : goal.put_held-requires-clause-holds
+put_held-requires-clause-holds c = (held c.args.writer.now c.args.width c.args.value c.from.result c.from.ensures c.requires.writer c.requires.width).holds
 
-pub push-requires : goal.push-requires
-push-requires c =
-    let all = sym (length-written c.loop-count.writer.bytes.items c.loop-count.count c.loop-count.held) ∙ ap length c.loop-count.invariant.bits in
+pub put_held-requires-clause-room : goal.put_held-requires-clause-room
+put_held-requires-clause-room c =
+    let bits = ap length (held c.args.writer.now c.args.width c.args.value c.from.result c.from.ensures c.requires.writer c.requires.width).bits in
     let more = length-append (written c.args.writer.now) (bits_of c.args.width c.args.value) in
     let value = length-bits c.args.width c.args.value in
-    let room : length c.loop-count.writer.bytes.items < 240 = omega (arith, all, more, value, c.requires.room, c.loop-count-test.true) in
-    (omega arith, room)
+    omega (arith, bits, more, value, c.requires.room)
 
-pub loop-count-preserved : goal.loop-count-preserved
-loop-count-preserved c =
-    let d = c.loop-count.count - 8 in
-    let held = c.loop-count.held in
-    let many : c.loop-count.count ≡ 8 + d = omega (arith, c.loop-count-test.true) in
-    let one : 1 * 2 ^ d % 18446744073709551616 ≡ 2 ^ d = one_shifted d (omega (arith, c.loop-count.invariant.wide)) in
-    let number : held % 2 ^ d ≡ held % (1 * 2 ^ d % 18446744073709551616) = ap (λ n. held % n) (sym one) in
-    let small : held / 2 ^ d < 2 ^ 8 = high_bits held 8 d (subst (λ n. held < 2 ^ n) many c.loop-count.invariant.low) in
-    record {
-      wide = omega (arith, c.loop-count.invariant.wide);
-      low = subst (λ n. n < 2 ^ d) number (below_power held d);
-      bytes = subst (λ xs. (i : ℕ) → get_or xs i 0 < 256) (sym c.push.ensures.items) (low_push c.loop-count.writer.bytes.items (held / 2 ^ d) c.loop-count.invariant.bytes small);
-      bits = ap (λ n. all_bits c.push.new.self.items ++ bits_of d n) (sym number)
-          ∙ byte_out c.loop-count.writer.bytes.items c.push.new.self.items c.loop-count.count d held _ many c.push.ensures.items c.loop-count.invariant.bits;
-    }
+pub returns-then-writer-ge32-clause-bits : goal.returns-then-writer-ge32-clause-bits
+returns-then-writer-ge32-clause-bits c = c.put_held.ensures.bits ∙ (held c.args.writer.now c.args.width c.args.value c.from.result c.from.ensures c.requires.writer c.requires.width).bits
+
+pub returns-else-writer-ge32-clause-writer : goal.returns-else-writer-ge32-clause-writer
+returns-else-writer-ge32-clause-writer c =
+    let now = (held c.args.writer.now c.args.width c.args.value c.from.result c.from.ensures c.requires.writer c.requires.width).holds in
+    record { few = omega (arith, c.if-writer-ge32.false); low = now.low; bytes = now.bytes }
+
+pub returns-else-writer-ge32-clause-bits : goal.returns-else-writer-ge32-clause-bits
+returns-else-writer-ge32-clause-bits c = (held c.args.writer.now c.args.width c.args.value c.from.result c.from.ensures c.requires.writer c.requires.width).bits

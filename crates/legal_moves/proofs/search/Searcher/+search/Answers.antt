@@ -1093,7 +1093,7 @@ search-loop-at-init t c =
       kept = c.in_ok-found.ensures.kept;
       shown = record {
         at_one = omega (arith, ap length c.in_ok-found.ensures.opening, length-map c.in_ok-found.found.stands.items (stood (boards_in c.in_ok-found.found.boards)));
-        state_is = c.copied_state.ensures ∙ ap (λ cs. state_at cs 0) (sym c.in_ok-found.ensures.opening);
+        state_is = c.copy_state.ensures ∙ ap (λ cs. state_at cs 0) (sym c.in_ok-found.ensures.opening);
       };
       going = subst (λ cs. IsGoing game e c.args.place c.args.state.now cs 0) (sym c.in_ok-found.ensures.opening) (going_begun game e c.args.place c.args.state.now c.requires.state);
     }

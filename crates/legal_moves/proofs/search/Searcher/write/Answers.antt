@@ -1,21 +1,17 @@
-use Rattle.std.proofs.Common.{◌≡◌, ◌-◌, ◌≤◌, true, inl, length, Some, slice_get, refl, sym, ap, ◌∙◌, subst, arith}
+use Rattle.std.proofs.Common.{◌≡◌, ◌-◌, ◌≤◌, true, length, Some, slice_get, refl, sym, ap, ◌∙◌, subst, arith}
 use Rattle.std.proofs.lemmas.Result.{on_ok_weaker}
 use Rattle.rbg_game.specs.Meaning.{game_of, action_of}
 use Rattle.rbg_game.proofs.MeaningLemmas.{action_of-Switch}
 use Rattle.rbg_game.specs.Positions.{IsStateOf}
-use Rattle.rbg_game.specs.declared.position.SemiState.{SemiState}
-use Rattle.legal_moves.specs.Effects.{EffectAt}
+use Rattle.legal_moves.specs.Effects.{Effect, EffectAt}
 use Rattle.legal_moves.specs.aid.Boards.{at_turn, board_at, boards_in}
 use Rattle.legal_moves.specs.aid.Configurations.{expression_at}
-use Rattle.legal_moves.specs.aid.Going.{state_at}
-use Rattle.legal_moves.specs.aid.Standing.{configurations_of}
+use Rattle.legal_moves.specs.aid.Seen.{state_seen}
 use Rattle.legal_moves.specs.declared.found.Stand.{Stand}
-use Rattle.legal_moves.proofs.ReadyLemmas.{read_at, count_steps, act_plain, act_valid, act_refused, ask_pattern, switches_is, modifies_is, OnTrue-at, OnFalse-at}
-use Rattle.legal_moves.proofs.Exits.{refused, no_error}
+use Rattle.legal_moves.proofs.ReadyLemmas.{read_at, count_steps, act_plain, act_valid, ask_pattern, switches_is, modifies_is, OnTrue-at}
 use Rattle.legal_moves.proofs.AttemptLemmas.{state_there, attempted, filled}
 use Rattle.legal_moves.proofs.BoardLemmas.{many_boards}
-use Rattle.legal_moves.proofs.WriteLemmas.{effect_of_switch, fits_on}
-use Rattle.legal_moves.proofs.Faults.{for_want}
+use Rattle.legal_moves.proofs.WriteLemmas.{effect_of_switch}
 use Rattle.legal_moves.proofs.search.Searcher.write.Goals as goal
 
 pub step-step-requires-clause-upto : goal.step-step-requires-clause-upto
@@ -116,21 +112,20 @@ returns-in-Switch-clause-wide c =
     λ wide. let too_many = c.add.ensures.wide wide in
     filled game e c.args.number c.args.at old old t U refl c.requires.kept on is reached refl refl shows ends too_many.0 too_many.1
 
--- ---- what is written
+-- ---- an action that writes what is there
 
-pub act-requires-clause-state : goal.act-requires-clause-state
-act-requires-clause-state c =
+pub leaves-requires-clause-state : goal.leaves-requires-clause-state
+leaves-requires-clause-state c =
     let game = game_of c.args.self.now.game.now in
     let old = c.args.found.now in
     let bs = boards_in old.boards in
     let s = c.index.result.now in
     let at_s = read_at old.stands.items c.args.at s c.requires.at c.index.ensures in
-    let S = c.put.new.state in
-    let state_is = state_there bs old.stands.items c.args.at s at_s ∙ sym c.put.ensures in
+    let state_is = state_there bs old.stands.items c.args.at s at_s ∙ sym c.seen.ensures in
     subst (IsStateOf game) state_is c.requires.state
 
-pub act-requires-clause-plain : goal.act-requires-clause-plain
-act-requires-clause-plain c =
+pub leaves-requires-clause-plain : goal.leaves-requires-clause-plain
+leaves-requires-clause-plain c =
     let game = game_of c.args.self.now.game.now in
     let tables = c.args.self.now.tables.now in
     let index = c.args.index in
@@ -142,39 +137,35 @@ act-requires-clause-plain c =
     let bs = boards_in old.boards in
     let s = c.index.result.now in
     let at_s = read_at old.stands.items c.args.at s c.requires.at c.index.ensures in
-    let S = c.put.new.state in
-    let state_is = state_there bs old.stands.items c.args.at s at_s ∙ sym c.put.ensures in
+    let S = state_seen c.seen.result in
+    let state_is = state_there bs old.stands.items c.args.at s at_s ∙ sym c.seen.ensures in
     act_plain game tables index c.requires.ready T at_T c.args.number c.requires.from c.step-step.result.now at_step c.in-Act.action c.in-Act.is S (subst (IsStateOf game) state_is c.requires.state)
 
-pub returns-then-not-act-clause-tried : goal.returns-then-not-act-clause-tried
-returns-then-not-act-clause-tried c =
-    let game = game_of c.args.self.now.game.now in
-    let tables = c.args.self.now.tables.now in
-    let index = c.args.index in
-    let e = expression_at game index in
-    let T = c.index-self-index.result in
-    let at_T = read_at tables index T c.requires.ready.within c.index-self-index.is in
-    let at_step = subst (λ x. slice_get x.steps.items (c.args.number - 1) ≡ Some c.step-step.result.now) (sym c.index-self-index.is) c.step-step.ensures in
+pub seen-requires-clause-board : goal.seen-requires-clause-board
+seen-requires-clause-board c =
     let old = c.args.found.now in
     let bs = boards_in old.boards in
     let s = c.index.result.now in
     let at_s = read_at old.stands.items c.args.at s c.requires.at c.index.ensures in
-    let S = c.put.new.state in
-    let state_is = state_there bs old.stands.items c.args.at s at_s ∙ sym c.put.ensures in
-    let never = OnFalse-at c.act.result _ c.if-not-act.true (act_refused game tables index c.requires.ready T at_T c.args.number c.requires.from c.step-step.result.now at_step c.in-Act.action c.in-Act.is S c.act.result c.act.ensures.refused) in
-    inl (refl, subst (λ S. (U : SemiState) → ¬ EffectAt game e 1 c.args.number S U) (sym state_is) never)
+    omega (arith, many_boards old.boards, c.requires.kept.within c.args.at s at_s)
 
-pub returns-then-not-act-clause-kept : goal.returns-then-not-act-clause-kept
-returns-then-not-act-clause-kept c = c.requires.kept
+pub seen-requires-clause-whole : goal.seen-requires-clause-whole
+seen-requires-clause-whole c = c.requires.kept.whole
 
-pub returns-then-not-act-clause-wide : goal.returns-then-not-act-clause-wide
-returns-then-not-act-clause-wide c = no_error
+pub add-requires-then-leaves-clause-board : goal.add-requires-then-leaves-clause-board
+add-requires-then-leaves-clause-board c =
+    let old = c.args.found.now in
+    let s = c.index.result.now in
+    c.requires.kept.within c.args.at s (read_at old.stands.items c.args.at s c.requires.at c.index.ensures)
 
-pub number_of-requires-clause-kept : goal.number_of-requires-clause-kept
-number_of-requires-clause-kept c = c.requires.kept
+pub add-requires-then-leaves-clause-kept : goal.add-requires-then-leaves-clause-kept
+add-requires-then-leaves-clause-kept c = c.requires.kept
 
-pub number_of-requires-clause-large : goal.number_of-requires-clause-large
-number_of-requires-clause-large c =
+pub returns-then-leaves-clause-kept : goal.returns-then-leaves-clause-kept
+returns-then-leaves-clause-kept c = c.add-then-leaves.ensures.kept
+
+pub returns-then-leaves-clause-tried : goal.returns-then-leaves-clause-tried
+returns-then-leaves-clause-tried c =
     let game = game_of c.args.self.now.game.now in
     let tables = c.args.self.now.tables.now in
     let index = c.args.index in
@@ -187,21 +178,18 @@ number_of-requires-clause-large c =
     let s = c.index.result.now in
     let at_s = read_at old.stands.items c.args.at s c.requires.at c.index.ensures in
     let on = c.requires.kept.within c.args.at s at_s in
-    let S = c.put.new.state in
-    let state_is = state_there bs old.stands.items c.args.at s at_s ∙ sym c.put.ensures in
-    let U = c.act.new.state in
-    let valid = OnTrue-at c.act.result _ c.if-not-act.false (act_valid game tables index c.requires.ready T at_T c.args.number c.requires.from c.step-step.result.now at_step c.in-Act.action c.in-Act.is S U c.act.result c.act.ensures.valid) in
-    let reached = subst (λ S. EffectAt game e 1 c.args.number S U) (sym state_is) valid in
-    fits_on game e c.args.number old.boards s.board (state_at (configurations_of old) c.args.at) U s.mover s.vertex c.requires.kept.whole (omega (arith, many_boards old.boards, on)) (state_there bs old.stands.items c.args.at s at_s) c.requires.ready.sound c.requires.ready.expression_is c.requires.state reached
+    let there = state_there bs old.stands.items c.args.at s at_s in
+    let S = at_turn (board_at bs s.board) s.mover s.vertex in
+    let stays : Effect game (action_of c.in-Act.action) S S = subst (λ U. Effect game (action_of c.in-Act.action) U U) c.seen.ensures (OnTrue-at c.leaves.result _ c.if-leaves.true c.leaves.ensures) in
+    let valid = act_valid game tables index c.requires.ready T at_T c.args.number c.requires.from c.step-step.result.now at_step c.in-Act.action c.in-Act.is S S true stays in
+    let reached = subst (λ U. EffectAt game e 1 c.args.number U S) (sym there) valid in
+    let t : Stand = record { board = s.board; mover = s.mover; vertex = s.vertex; place = c.args.number; parent = c.args.at; shows = c.is_modifier-then-leaves.result; ends = c.is_switch-then-leaves.result } in
+    let shows = c.is_modifier-then-leaves.ensures ∙ modifies_is game tables index c.requires.ready T at_T c.args.number c.requires.from c.step-step.result.now at_step in
+    let ends = c.is_switch-then-leaves.ensures ∙ switches_is game tables index c.requires.ready T at_T c.args.number c.requires.from c.step-step.result.now at_step in
+    on_ok_weaker c.add-then-leaves.result (λ added. attempted game e c.args.number c.args.at old old t S refl c.requires.kept on refl reached refl refl shows ends c.add-then-leaves.new.self c.add-then-leaves.ensures.boards added) c.add-then-leaves.ensures.added
 
-pub add-requires-2-clause-board : goal.add-requires-2-clause-board
-add-requires-2-clause-board c = c.in_ok-board.ensures.number.0
-
-pub add-requires-2-clause-kept : goal.add-requires-2-clause-kept
-add-requires-2-clause-kept c = c.in_ok-board.ensures.kept
-
-pub returns-clause-tried : goal.returns-clause-tried
-returns-clause-tried c =
+pub returns-then-leaves-clause-wide : goal.returns-then-leaves-clause-wide
+returns-then-leaves-clause-wide c =
     let game = game_of c.args.self.now.game.now in
     let tables = c.args.self.now.tables.now in
     let index = c.args.index in
@@ -213,65 +201,14 @@ returns-clause-tried c =
     let bs = boards_in old.boards in
     let s = c.index.result.now in
     let at_s = read_at old.stands.items c.args.at s c.requires.at c.index.ensures in
-    let S = c.put.new.state in
-    let state_is = state_there bs old.stands.items c.args.at s at_s ∙ sym c.put.ensures in
-    let U = c.act.new.state in
-    let valid = OnTrue-at c.act.result _ c.if-not-act.false (act_valid game tables index c.requires.ready T at_T c.args.number c.requires.from c.step-step.result.now at_step c.in-Act.action c.in-Act.is S U c.act.result c.act.ensures.valid) in
-    let reached = subst (λ S. EffectAt game e 1 c.args.number S U) (sym state_is) valid in
-    let t : Stand = record { board = c.in_ok-board.board; mover = U.mover; vertex = U.vertex; place = c.args.number; parent = c.args.at; shows = c.is_modifier-2.result; ends = c.is_switch-2.result } in
-    let shows = c.is_modifier-2.ensures ∙ modifies_is game tables index c.requires.ready T at_T c.args.number c.requires.from c.step-step.result.now at_step in
-    let ends = c.is_switch-2.ensures ∙ switches_is game tables index c.requires.ready T at_T c.args.number c.requires.from c.step-step.result.now at_step in
-    let mid = c.number_of.new.self in
-    let kept = c.in_ok-board.ensures.kept in
-    let same = c.in_ok-board.ensures.same in
-    on_ok_weaker c.add-2.result (λ added. attempted game e c.args.number c.args.at old mid t U same kept c.in_ok-board.ensures.number.0 c.in_ok-board.ensures.number.1 reached refl refl shows ends c.add-2.new.self c.add-2.ensures.boards added) c.add-2.ensures.added
-
-pub returns-clause-wide : goal.returns-clause-wide
-returns-clause-wide c =
-    let game = game_of c.args.self.now.game.now in
-    let tables = c.args.self.now.tables.now in
-    let index = c.args.index in
-    let e = expression_at game index in
-    let T = c.index-self-index.result in
-    let at_T = read_at tables index T c.requires.ready.within c.index-self-index.is in
-    let at_step = subst (λ x. slice_get x.steps.items (c.args.number - 1) ≡ Some c.step-step.result.now) (sym c.index-self-index.is) c.step-step.ensures in
-    let old = c.args.found.now in
-    let bs = boards_in old.boards in
-    let s = c.index.result.now in
-    let at_s = read_at old.stands.items c.args.at s c.requires.at c.index.ensures in
-    let S = c.put.new.state in
-    let state_is = state_there bs old.stands.items c.args.at s at_s ∙ sym c.put.ensures in
-    let U = c.act.new.state in
-    let valid = OnTrue-at c.act.result _ c.if-not-act.false (act_valid game tables index c.requires.ready T at_T c.args.number c.requires.from c.step-step.result.now at_step c.in-Act.action c.in-Act.is S U c.act.result c.act.ensures.valid) in
-    let reached = subst (λ S. EffectAt game e 1 c.args.number S U) (sym state_is) valid in
-    let t : Stand = record { board = c.in_ok-board.board; mover = U.mover; vertex = U.vertex; place = c.args.number; parent = c.args.at; shows = c.is_modifier-2.result; ends = c.is_switch-2.result } in
-    let shows = c.is_modifier-2.ensures ∙ modifies_is game tables index c.requires.ready T at_T c.args.number c.requires.from c.step-step.result.now at_step in
-    let ends = c.is_switch-2.ensures ∙ switches_is game tables index c.requires.ready T at_T c.args.number c.requires.from c.step-step.result.now at_step in
-    let mid = c.number_of.new.self in
-    let kept = c.in_ok-board.ensures.kept in
-    let same = c.in_ok-board.ensures.same in
-    λ wide. let too_many = c.add-2.ensures.wide wide in
-    filled game e c.args.number c.args.at old mid t U same kept c.in_ok-board.ensures.number.0 c.in_ok-board.ensures.number.1 reached refl refl shows ends too_many.0 too_many.1
-
-pub returns-clause-kept : goal.returns-clause-kept
-returns-clause-kept c = c.add-2.ensures.kept
-
-pub returns-in_err-board-clause-kept : goal.returns-in_err-board-clause-kept
-returns-in_err-board-clause-kept c = refused _ c.from_residual.result _ c.from_residual.ensures.1
-
-pub returns-in_err-board-clause-tried : goal.returns-in_err-board-clause-tried
-returns-in_err-board-clause-tried c = refused _ c.from_residual.result _ c.from_residual.ensures.1
-
-pub returns-in_err-board-clause-wide : goal.returns-in_err-board-clause-wide
-returns-in_err-board-clause-wide c = for_want c.from_residual.result c.from_residual.ensures.1
-
-pub put-requires-clause-board : goal.put-requires-clause-board
-put-requires-clause-board c =
-    let old = c.args.found.now in
-    let bs = boards_in old.boards in
-    let s = c.index.result.now in
-    let at_s = read_at old.stands.items c.args.at s c.requires.at c.index.ensures in
-    omega (arith, many_boards old.boards, c.requires.kept.within c.args.at s at_s)
-
-pub put-requires-clause-whole : goal.put-requires-clause-whole
-put-requires-clause-whole c = c.requires.kept.whole
+    let on = c.requires.kept.within c.args.at s at_s in
+    let there = state_there bs old.stands.items c.args.at s at_s in
+    let S = at_turn (board_at bs s.board) s.mover s.vertex in
+    let stays : Effect game (action_of c.in-Act.action) S S = subst (λ U. Effect game (action_of c.in-Act.action) U U) c.seen.ensures (OnTrue-at c.leaves.result _ c.if-leaves.true c.leaves.ensures) in
+    let valid = act_valid game tables index c.requires.ready T at_T c.args.number c.requires.from c.step-step.result.now at_step c.in-Act.action c.in-Act.is S S true stays in
+    let reached = subst (λ U. EffectAt game e 1 c.args.number U S) (sym there) valid in
+    let t : Stand = record { board = s.board; mover = s.mover; vertex = s.vertex; place = c.args.number; parent = c.args.at; shows = c.is_modifier-then-leaves.result; ends = c.is_switch-then-leaves.result } in
+    let shows = c.is_modifier-then-leaves.ensures ∙ modifies_is game tables index c.requires.ready T at_T c.args.number c.requires.from c.step-step.result.now at_step in
+    let ends = c.is_switch-then-leaves.ensures ∙ switches_is game tables index c.requires.ready T at_T c.args.number c.requires.from c.step-step.result.now at_step in
+    λ wide. let too_many = c.add-then-leaves.ensures.wide wide in
+    filled game e c.args.number c.args.at old old t S refl c.requires.kept on refl reached refl refl shows ends too_many.0 too_many.1

@@ -1,8 +1,0 @@
-use Rattle.std.proofs.Common.{◌≤◌, sym, ◌∙◌, subst}
-use Rattle.std.specs.List.{sum_by}
-use Rattle.position_pack.specs.Bits.{width}
-use Rattle.position_pack.proofs.PartFields.{few_bits}
-use Rattle.position_pack.proofs.packed.Packing.pack.Goals as goal
-
-pub put_fields-requires : goal.put_fields-requires
-put_fields-requires c = subst (λ g. sum_by width g ≤ 1920) (sym (c.deref.ensures.0 ∙ c.self.inside.greatest_are)) (few_bits _ c.self.inside.small)
