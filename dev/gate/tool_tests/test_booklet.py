@@ -24,7 +24,7 @@ class Booklet(Case):
         return found
 
     def test_lines(self):
-        for words, most in (((), 900), (("--text",), 950)):
+        for words, most in (((), 930), (("--text",), 950)):
             lines = self.printed(*words)
             self.assertEqual([line for line in lines if len(line) > 100], [])
             counted = sum(1 for line in lines[:-1] if line.strip() and not line.startswith(("==== ", "######## ")))
