@@ -1,5 +1,6 @@
 //! The numbers of the successors.
-ghost use Rattle.std.specs.Prelude.{◌≡◌, ◌+◌, ◌^◌, ◌<◌, ◌≤◌, ◌⊎◌, ℕ, suc, All, IfOk, IfErr, Err, length, slice_get, Some};
+ghost use Rattle.std.specs.Prelude.{◌≡◌, ◌+◌, ◌^◌, ◌<◌, ◌≤◌, ◌⊎◌, ℕ, suc, All, IfOk, IfErr, Err};
+ghost use Rattle.std.specs.Prelude.{length, slice_get, Some};
 ghost use Rattle.table.specs.Frames.{IsRead};
 ghost use Rattle.table.specs.Memory.{bytes_of_each};
 ghost use Rattle.frontier.specs.Frames.{IsGivenUp};

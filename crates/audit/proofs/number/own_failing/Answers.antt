@@ -59,7 +59,9 @@ returns-in_err-kept-clause-wide g c =
 
 pub returns-in_err-is_reached-clause-read : goal.returns-in_err-is_reached-clause-read
 returns-in_err-is_reached-clause-read g c =
-    read_then g.met.T.Table.stays_then (read_then g.met.T.Table.stays_then c.in_ok-at.ensures.read c.in_ok-kept.ensures.read) c.in_err-is_reached.ensures.read
+    read_then g.met.T.Table.stays_then
+    (read_then g.met.T.Table.stays_then c.in_ok-at.ensures.read c.in_ok-kept.ensures.read)
+    c.in_err-is_reached.ensures.read
 
 pub returns-in_err-is_reached-clause-room : goal.returns-in_err-is_reached-clause-room
 returns-in_err-is_reached-clause-room g c =
@@ -76,7 +78,10 @@ returns-in_err-is_reached-clause-wide g c =
 
 pub returns-in_err-reason-clause-read : goal.returns-in_err-reason-clause-read
 returns-in_err-reason-clause-read g c =
-    read_then g.met.T.Table.stays_then (read_then g.met.T.Table.stays_then (read_then g.met.T.Table.stays_then c.in_ok-at.ensures.read c.in_ok-kept.ensures.read) c.in_ok-is_reached.ensures.read) c.in_err-reason.ensures.read
+    read_then g.met.T.Table.stays_then
+    (read_then g.met.T.Table.stays_then (read_then g.met.T.Table.stays_then c.in_ok-at.ensures.read c.in_ok-kept.ensures.read)
+    c.in_ok-is_reached.ensures.read)
+    c.in_err-reason.ensures.read
 
 pub returns-in_err-reason-clause-room : goal.returns-in_err-reason-clause-room
 returns-in_err-reason-clause-room g c =
@@ -99,7 +104,9 @@ returns-in_err-reason-clause-wide g c =
 
 pub returns-then-not-branch-clause-read : goal.returns-then-not-branch-clause-read
 returns-then-not-branch-clause-read g c =
-    read_then g.met.T.Table.stays_then (read_then g.met.T.Table.stays_then c.in_ok-at.ensures.read c.in_ok-kept.ensures.read) c.in_ok-is_reached.ensures.read
+    read_then g.met.T.Table.stays_then
+    (read_then g.met.T.Table.stays_then c.in_ok-at.ensures.read c.in_ok-kept.ensures.read)
+    c.in_ok-is_reached.ensures.read
 
 pub returns-then-not-branch-clause-wide : goal.returns-then-not-branch-clause-wide
 returns-then-not-branch-clause-wide g c =
@@ -107,7 +114,10 @@ returns-then-not-branch-clause-wide g c =
 
 pub returns-clause-read : goal.returns-clause-read
 returns-clause-read g c =
-    read_then g.met.T.Table.stays_then (read_then g.met.T.Table.stays_then (read_then g.met.T.Table.stays_then c.in_ok-at.ensures.read c.in_ok-kept.ensures.read) c.in_ok-is_reached.ensures.read) c.in_ok-reason.ensures.read
+    read_then g.met.T.Table.stays_then
+    (read_then g.met.T.Table.stays_then (read_then g.met.T.Table.stays_then c.in_ok-at.ensures.read c.in_ok-kept.ensures.read)
+    c.in_ok-is_reached.ensures.read)
+    c.in_ok-reason.ensures.read
 
 pub returns-clause-wide : goal.returns-clause-wide
 returns-clause-wide g c =

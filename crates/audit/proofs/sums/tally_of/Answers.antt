@@ -34,7 +34,9 @@ returns-in_err-moves-clause-wide g c =
 
 pub returns-in_err-own_failing-clause-read : goal.returns-in_err-own_failing-clause-read
 returns-in_err-own_failing-clause-read g c =
-    read_then g.met.T.Table.stays_then (read_then g.met.T.Table.stays_then c.in_ok-edges.ensures.read c.in_ok-moves.ensures.read) c.in_err-own_failing.ensures.read
+    read_then g.met.T.Table.stays_then
+    (read_then g.met.T.Table.stays_then c.in_ok-edges.ensures.read c.in_ok-moves.ensures.read)
+    c.in_err-own_failing.ensures.read
 
 pub returns-in_err-own_failing-clause-room : goal.returns-in_err-own_failing-clause-room
 returns-in_err-own_failing-clause-room g c =
@@ -47,7 +49,9 @@ returns-in_err-own_failing-clause-fault g c =
 
 pub returns-then-is_some-clause-read : goal.returns-then-is_some-clause-read
 returns-then-is_some-clause-read g c =
-    read_then g.met.T.Table.stays_then (read_then g.met.T.Table.stays_then c.in_ok-edges.ensures.read c.in_ok-moves.ensures.read) c.in_ok-own_failing.ensures.read
+    read_then g.met.T.Table.stays_then
+    (read_then g.met.T.Table.stays_then c.in_ok-edges.ensures.read c.in_ok-moves.ensures.read)
+    c.in_ok-own_failing.ensures.read
 
 pub returns-then-is_some-clause-wide : goal.returns-then-is_some-clause-wide
 returns-then-is_some-clause-wide g c =
@@ -55,7 +59,9 @@ returns-then-is_some-clause-wide g c =
 
 pub returns-clause-read : goal.returns-clause-read
 returns-clause-read g c =
-    read_then g.met.T.Table.stays_then (read_then g.met.T.Table.stays_then c.in_ok-edges.ensures.read c.in_ok-moves.ensures.read) c.in_ok-own_failing.ensures.read
+    read_then g.met.T.Table.stays_then
+    (read_then g.met.T.Table.stays_then c.in_ok-edges.ensures.read c.in_ok-moves.ensures.read)
+    c.in_ok-own_failing.ensures.read
 
 pub returns-clause-wide : goal.returns-clause-wide
 returns-clause-wide g c =

@@ -143,7 +143,9 @@ returns-then-branch-clause-wide g c =
 
 pub returns-in_err-arrivals-clause-read : goal.returns-in_err-arrivals-clause-read
 returns-in_err-arrivals-clause-read g c =
-    read_then g.met.T.Table.stays_then (read_then g.met.T.Table.stays_then c.in_ok-floors.ensures.read c.in_ok-adds_up.ensures.read) c.in_err-arrivals.ensures.read
+    read_then g.met.T.Table.stays_then
+    (read_then g.met.T.Table.stays_then c.in_ok-floors.ensures.read c.in_ok-adds_up.ensures.read)
+    c.in_err-arrivals.ensures.read
 
 pub returns-in_err-arrivals-clause-room : goal.returns-in_err-arrivals-clause-room
 returns-in_err-arrivals-clause-room g c =
@@ -163,4 +165,7 @@ returns-in_err-arrivals-clause-wide g c =
 
 pub returns-clause-read : goal.returns-clause-read
 returns-clause-read g c =
-    read_then g.met.T.Table.stays_then (read_then g.met.T.Table.stays_then (read_then g.met.T.Table.stays_then c.in_ok-floors.ensures.read c.in_ok-adds_up.ensures.read) c.in_ok-arrivals.ensures.read) c.first_wrong.ensures.read
+    read_then g.met.T.Table.stays_then
+    (read_then g.met.T.Table.stays_then (read_then g.met.T.Table.stays_then c.in_ok-floors.ensures.read c.in_ok-adds_up.ensures.read)
+    c.in_ok-arrivals.ensures.read)
+    c.first_wrong.ensures.read

@@ -98,7 +98,8 @@ returns-in_err-number-clause-read g c =
 pub returns-in_err-number-clause-err : goal.returns-in_err-number-clause-err
 returns-in_err-number-clause-err g c =
     passed_on _ c.from_residual.result _ c.from_residual.ensures
-    (given_up_since g.met.T.Table.goes_on_then g.met.T.Table.fails_since (g.met.T.Table.stays_goes_on _ _ c.loop-position.invariant.read.stays) c.in_err-number.ensures.err)
+    (given_up_since g.met.T.Table.goes_on_then g.met.T.Table.fails_since (g.met.T.Table.stays_goes_on _ _ c.loop-position.invariant.read.stays)
+    c.in_err-number.ensures.err)
 
 pub returns-then-is_err-clause-read : goal.returns-then-is_err-clause-read
 returns-then-is_err-clause-read g c =

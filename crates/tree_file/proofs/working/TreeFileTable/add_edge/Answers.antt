@@ -16,7 +16,8 @@ invariant_of-self g c =
     let was : IsBackedFile g.row.LAYOUT self.commits (file_of old self.game) = record
     { of_layout = self.of_layout; counted = self.counted; sized = self.sized; sealed = self.sealed; stands = self.stands } in
     let works = either_way {C = StoreWorks old.store new.store × (new.text ≡ old.text)} c.add_edge.result (λ (a : WorkGoesOn old new). (a.works, a.text))
-    (λ f (a : WorkFails old new f). (a.works, a.text)) (on_ok _ (WorkGoesOn old new) c.add_edge.result (λ wrote. wrote.ahead) c.add_edge.ensures.wrote) c.add_edge.ensures.fault in
+    (λ f (a : WorkFails old new f). (a.works, a.text))
+    (on_ok _ (WorkGoesOn old new) c.add_edge.result (λ wrote. wrote.ahead) c.add_edge.ensures.wrote) c.add_edge.ensures.fault in
     let is = backed_still g.row.LAYOUT self.commits (file_of old self.game) (file_of new self.game) was (works_still works.0) works.1 refl in
     record { of_layout = is.of_layout; counted = is.counted; sized = is.sized; sealed = is.sealed; stands = is.stands }
 

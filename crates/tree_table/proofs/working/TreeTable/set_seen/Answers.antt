@@ -64,7 +64,8 @@ returns-clause-wrote g c =
     let was : IsHonestWork old → IsCellAt (table_now old) c.args.number c.in-Some.seen.cell = was_seen (table_now old) self.seen c.in-Some.seen c.args.number old (c.in-Some.is) c.requires.seen self.last in
     let changed : IsHonestWork old → HoldsWork old → HoldsTable c.in-Ok.slot text now (g.P.Pages.store c.set_record.new.store) =
     λ honest h. done.table honest.disk text (table_now old) h (was honest).0 (was honest).1 in
-    writes_so (λ (w : Work). w) old new (now_goes_on old new now few done.works refl refl changed done.open done.slot.text done.slot.packing done.slot.goal) done.known
+    writes_so (λ (w : Work). w) old new
+    (now_goes_on old new now few done.works refl refl changed done.open done.slot.text done.slot.packing done.slot.goal) done.known
 
 pub invariant_of-self : goal.invariant_of-self
 invariant_of-self g c =

@@ -56,7 +56,8 @@ returns-clause-wrote g c =
     let few : c.in_ok-self.field-0.sizes.counts.known ≤ 2 ^ 24 = subst (λ (k : Counts). k.known ≤ 2 ^ 24) (sym done.counts) self.few in
     let changed : IsHonestWork old → HoldsWork old → HoldsTable c.in_ok-self.field-0 text now (g.P.Pages.store c.add_edge.new.store) =
     λ honest h. done.table honest.disk text (table_now old) h in
-    writes_so work_in _ _ (now_goes_on old new now few done.works refl refl changed done.open done.slot.text done.slot.packing done.slot.goal) (ap (λ (k : Counts). k.known) done.counts)
+    writes_so work_in _ _
+    (now_goes_on old new now few done.works refl refl changed done.open done.slot.text done.slot.packing done.slot.goal) (ap (λ (k : Counts). k.known) done.counts)
 
 pub invariant_of-self : goal.invariant_of-self
 invariant_of-self g c =

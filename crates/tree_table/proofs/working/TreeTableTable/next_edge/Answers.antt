@@ -52,4 +52,5 @@ pub returns-clause-read : goal.returns-clause-read
 returns-clause-read g c =
     let self = c.args.self.now in
     reads_so work_in _ _
-    (only_read self.slot self.text.items self.torn (g.P.Pages.store self.store) (g.P.Pages.store c.edge_after.new.store) c.edge_after.ensures.works c.edge_after.ensures.unchanged)
+    (only_read self.slot self.text.items self.torn (g.P.Pages.store self.store) (g.P.Pages.store c.edge_after.new.store)
+    c.edge_after.ensures.works c.edge_after.ensures.unchanged)

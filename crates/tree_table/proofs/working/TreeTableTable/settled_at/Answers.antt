@@ -46,4 +46,5 @@ pub returns-clause-read : goal.returns-clause-read
 returns-clause-read g c =
     let self = c.args.self.now in
     reads_so work_in _ _
-    (only_read self.slot self.text.items self.torn (g.P.Pages.store self.store) (g.P.Pages.store c.settled_at.new.store) c.settled_at.ensures.works c.settled_at.ensures.unchanged)
+    (only_read self.slot self.text.items self.torn (g.P.Pages.store self.store) (g.P.Pages.store c.settled_at.new.store)
+    c.settled_at.ensures.works c.settled_at.ensures.unchanged)
