@@ -48,8 +48,8 @@ fn hash_of_pieces(pieces: &[u8]) -> usize
 fn four_mixed(hash: usize, pieces: &[u8], at: usize) -> usize
     requires hash { hash < 65536 }
     requires there { at + 4 ≤ length pieces.now }
-    ensures is { result ≡ mixed (mixed (mixed (mixed hash (slice_index pieces.now at)) (slice_index pieces.now (at + 1)))
-        (slice_index pieces.now (at + 2))) (slice_index pieces.now (at + 3)) }
+    ensures is { let piece = slice_index pieces.now in result
+        ≡ mixed (mixed (mixed (mixed hash (piece at)) (piece (at + 1))) (piece (at + 2))) (piece (at + 3)) }
     ensures small { result < 65536 }
 {
     (hash * 923_521

@@ -169,7 +169,7 @@ pub(crate) fn glance_where_seen(game: &Game, action: &Action, here: Seen<'_>) ->
 pub(crate) fn leaves(game: &Game, action: &Action, here: Seen<'_>) -> bool
     requires state { IsStateOf (game_of game.now) (state_seen here) }
     requires plain { IsPlain here.values.now (action_of action.now) }
-    ensures { OnTrue result (Effect (game_of game.now) (action_of action.now) (state_seen here.entry) (state_seen here.entry)) }
+    ensures { let S = state_seen here.entry in OnTrue result (Effect (game_of game.now) (action_of action.now) S S) }
 {
     match action {
         Action::Off(piece) => here.pieces[usize::from(here.vertex)] == *piece,

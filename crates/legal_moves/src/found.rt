@@ -93,7 +93,8 @@ impl Found {
         Found::new(alloc, state)
     }
 
-    /// Nothing found, in new room: a function of its own, since a call pays for all the room that its function may need.
+    /// Nothing found, in new room: a function of its own, since a call pays for all the room that its
+    /// function may need.
     #[inline(never)]
     fn new(alloc: Global, state: &SemiState) -> Result<Found, AllocError>
         ensures { IfOk result (λ found. IsEmpty found state.now) }
