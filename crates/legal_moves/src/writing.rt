@@ -75,7 +75,7 @@ impl Searcher<'_> {
         self.write_anew(room, index, found, at, number)
     }
 
-    /// The same by a copy of the board, on which the action is carried out.
+    /// Adds what the action makes of a copy of the board, where it changes anything.
     fn write_anew(
         &self,
         room: &mut Room,

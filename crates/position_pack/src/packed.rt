@@ -155,7 +155,7 @@ impl Packing {
         writer.bytes
     }
 
-    /// The same by a list of all fields, whatever the position.
+    /// The bytes by bits of any position, by a list of all its fields.
     #[inline(never)]
     fn pack_fields(&self, at: &Position) -> Packed
         ensures { result.items ≡ bytes_by_bits self.now.shape at.now }
