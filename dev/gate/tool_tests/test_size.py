@@ -56,6 +56,10 @@ class Size(Case):
             return positions / 2 < out["positions"] < 2 * positions and out["range"][0] <= positions <= out["range"][1]
         return out["how"] != "all" or out["positions"] == positions
 
+    def test_pages_that_are_enough_for_a_unit(self):
+        # in take two moves lead from a position at most, and two to one
+        self.assertEqual(self.estimate("take", "1")["unit_pages"], 49 * (3 * 2 + 2))
+
     def test_a_number_that_is_told(self):
         game = play.play_of((GAMES / "fox_and_hounds.rbg").read_bytes())
         graph = solve.Graph(game)
