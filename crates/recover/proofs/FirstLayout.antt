@@ -1,7 +1,7 @@
 -- A file of the first layout is opened and its game looked at, and why it is not.
-use Rattle.std.specs.Prelude.{IsTrue, Result, Ok, Err}
+use Rattle.std.specs.Prelude.{Result, Ok, Err}
 use Rattle.std.specs.Result.{IfOk, IfErr, OnOk}
-use Rattle.std.proofs.Common.{◌≡◌, ◌↔◌, ◌≤◌, ◌^◌, ℕ, Bool, true, false, List, length, Option, None, Some, refl, sym, ap, subst}
+use Rattle.std.proofs.Common.{◌≡◌, ◌↔◌, ◌≤◌, ◌^◌, ℕ, Bool, true, false, List, length, Option, Some, refl, sym, ap, subst}
 use Rattle.std.proofs.lemmas.Option.{same_Some}
 use Rattle.sector_disk.specs.Disk.{Disk}
 use Rattle.page_store.specs.Store.{Store}
@@ -23,7 +23,7 @@ use Rattle.game_file.specs.State.{State}
 use Rattle.game_file.specs.declared.fault.FileFault.{FileFault}
 use Rattle.game_file.specs.declared.fault.FileFault.TheVariants as file
 use Rattle.earlier_layouts.specs.Calls.{file_of, state_of}
-use Rattle.earlier_layouts.specs.File.{FlatFile, IsBacked, IsFile, IsGame, kept_in, kept_of, pages_of}
+use Rattle.earlier_layouts.specs.File.{FlatFile, IsBacked, IsFile, IsGame, kept_in, kept_of}
 use Rattle.earlier_layouts.specs.Held.{IsOlder, Stores}
 use Rattle.earlier_layouts.specs.Moving.{MoveCause}
 use Rattle.earlier_layouts.specs.aid.ReadLaws.{a_picture_stores_one_table}

@@ -2,7 +2,7 @@
 -- no packing of positions, and no step of the work. What a table tells stands in `Tables`. The calls of `SavedTable` go
 -- by the relations of one record, `Calls`, which are not said here; `AreLawful` says what holds of them, and the headline
 -- in brief of each history of such calls.
-use Rattle.std.specs.Prelude.{◌≡◌, ◌⊎◌, ℕ, ◌+◌, ◌≤◌, ◌<◌, List, [], ◌∷◌, ◌++◌, length, Contains, Option, None, Some, IsTrue, Result, Ok, Err, IfErr, IsErrOf}
+use Rattle.std.specs.Prelude.{◌≡◌, ◌⊎◌, ℕ, ◌+◌, ◌<◌, List, [], ◌∷◌, ◌++◌, length, Contains, Option, None, Some, IsTrue, Result, Ok, Err, IfErr, IsErrOf}
 use Rattle.sector_disk.specs.Disk.{Picture, Shown, Disk, GoesOn, MayLeave, StopsIn, Grew}
 use Rattle.rbg_text.specs.Token.{Text}
 use Rattle.rbg_game.specs.declared.position.Position.{Position}

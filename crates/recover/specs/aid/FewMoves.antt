@@ -1,7 +1,7 @@
 -- Where few moves lead from each position and to it, few lead from its bytes and to them.
-use Rattle.std.specs.Prelude.{◌≡◌, ℕ, ◌≤◌, List, map, length, get_or, Option, Contains}
+use Rattle.std.specs.Prelude.{ℕ, List, map, Option, Contains}
 use Rattle.std.proofs.Common.{refl, sym, subst, ◌∙◌, ap, arith}
-use Rattle.std.proofs.lemmas.List.{get_or-map, get_or_default, length-map}
+use Rattle.std.proofs.lemmas.List.{get_or-map, length-map}
 use Rattle.rbg_game.specs.Games.{Game}
 use Rattle.rbg_game.specs.Sound.{IsSoundGame}
 use Rattle.rbg_game.specs.declared.position.Position.{Position}

@@ -1,6 +1,6 @@
 -- A history in brief is one of the calls' contracts, so the headline in brief follows from the headline.
 use Rattle.std.specs.Prelude.{◌≡◌, ◌⊎◌, ℕ, zero, suc, true, false, List, [], ◌∷◌, ◌++◌, map, Contains, Option, None, Some, IsTrue}
-use Rattle.std.proofs.Common.{refl, sym, subst, ◌∙◌, ap, inl, inr, arith}
+use Rattle.std.proofs.Common.{refl, sym, subst, ap, inl, inr, arith}
 use Rattle.sector_disk.specs.Disk.{Picture, Shown, Disk, GoesOn, MayLeave, StopsIn}
 use Rattle.sector_disk.specs.aid.Moments.{still_honest}
 use Rattle.game_file.specs.Kept.{Kept, Layout}
