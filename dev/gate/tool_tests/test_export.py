@@ -126,7 +126,7 @@ class Json(Case):
     def test_a_game(self):
         wanted = {"positions": 67, "how": "all", "range": [67, 67], "pages": 64, "found": 67, "edges_each": 4.96}
         # the first column alone is left of each bar that has it whole and something more: 19 bars, of which each player has 18 to move at
-        wanted["unit_pages"] = 49 * (3 * 18 + 2)
+        wanted["unit_pages"] = 49 * (3 * 18 + 2) + 1
         self.assertEqual(self.printed("size", GAMES / "chomp.rbg"), [wanted])
         name = "a\"<b>,\n.rbg"
         self.file(name, "#players = white(1), black(1)\n#pieces = e\n#board = v[e]{}\n#rules = ->grey")

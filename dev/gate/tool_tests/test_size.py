@@ -58,7 +58,7 @@ class Size(Case):
 
     def test_pages_that_are_enough_for_a_unit(self):
         # in take two moves lead from a position at most, and two to one
-        self.assertEqual(self.estimate("take", "1")["unit_pages"], 49 * (3 * 2 + 2))
+        self.assertEqual(self.estimate("take", "1")["unit_pages"], 49 * (3 * 2 + 2) + 1)
 
     def test_a_number_that_is_told(self):
         game = play.play_of((GAMES / "fox_and_hounds.rbg").read_bytes())
