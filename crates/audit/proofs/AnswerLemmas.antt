@@ -14,7 +14,7 @@ use Rattle.retrograde.proofs.Sound.{sound_right}
 use Rattle.audit.specs.declared.verdict.Reason.{Reason}
 use Rattle.audit.specs.declared.verdict.Verdict.TheVariants.{Right, Wrong}
 use Rattle.audit.specs.Answers.{IsAnswer, IsTableSo, reason_of}
-use Rattle.audit.specs.aid.Conditions.{IsLowest, own_condition}
+use Rattle.audit.specs.lemmas.Conditions.{IsLowest, own_condition}
 
 module _ {P : Type 0} (graph : Graph P) (IsWide : P → Type 0) (stored : Stored P) where
   -- where each condition holds, all do

@@ -13,9 +13,9 @@ use Rattle.retrograde.specs.View.{HasNumber}
 use Rattle.retrograde.specs.declared.records.Record.{Record}
 use Rattle.retrograde.specs.Stored.{Stored, IsTable, view_of, is_expanded, expanded_count, count_below}
 use Rattle.retrograde.specs.Audit.{EdgesAreMoves}
-use Rattle.retrograde.proofs.Counting.{true_or_false, counts_one, counts_none}
-use Rattle.retrograde.proofs.Lowering.{get_set_same, get_set_other}
-use Rattle.audit.specs.aid.Edges.{LeadsFrom, IsMoveEdge, IsArriving, AreArrivals, CountsIf}
+use Rattle.retrograde.proofs.CountLemmas.{true_or_false, counts_one, counts_none}
+use Rattle.retrograde.proofs.Predecessors.{get_set_same, get_set_other}
+use Rattle.audit.specs.lemmas.Edges.{LeadsFrom, IsMoveEdge, IsArriving, AreArrivals, CountsIf}
 use Rattle.audit.proofs.Lists.{contains_at, at_contains}
 
 -- a count is no greater than the one after it, nor than the numbers that are gone over
@@ -189,7 +189,8 @@ module _ {P : Type 0} (ys : List P) (x : P) (Edge : Type 0) (old : List ℕ) (i 
 module _ (graph : Graph (List ℕ)) (stored : Stored (List ℕ)) where
   -- a successor to which there is an edge is a move
   pub counted_moves : (i p : ℕ) (x z : List ℕ) (ys : List (List ℕ)) (old new : List ℕ) → HasNumber (view_of stored) p z → p < expanded_count stored
-      → ListsExactly (graph.Successor z) ys → CountsIf (Contains ys x × (stored.has_edge i p ≡ true)) old new i → CountsIf (IsMoveEdge graph stored i x p) old new i
+      → ListsExactly (graph.Successor z) ys → CountsIf (Contains ys x × (stored.has_edge i p ≡ true)) old new i
+      → CountsIf (IsMoveEdge graph stored i x p) old new i
   counted_moves i p x z ys old new at within lists =
       counted_as old new i
       (λ (there, edge). (edge, (z, at, within, All-contains (graph.Successor z) ys x lists.only there)))

@@ -13,12 +13,12 @@ use Rattle.retrograde.specs.declared.records.State.{State}
 use Rattle.retrograde.specs.declared.records.State.TheVariants.{Known, Expanded, Settled, Processed}
 use Rattle.retrograde.specs.Audit.{AreItsMoves, HasItsMoves, EdgesAreMoves}
 use Rattle.retrograde.proofs.Finished.{element}
-use Rattle.retrograde.proofs.Counting.{counted}
-use Rattle.retrograde.proofs.Adding.{is_first, is_later, first_or_later, none_in_empty}
-use Rattle.retrograde.proofs.Listing.{IsOnce, once_from_pairs, pairs_from_once, all_from_contains, length_listed, position_in, as_many, numbers_once, those}
+use Rattle.retrograde.proofs.CountLemmas.{counted}
+use Rattle.retrograde.proofs.Additions.{is_first, is_later, first_or_later, none_in_empty}
+use Rattle.retrograde.proofs.NumberLists.{IsOnce, once_from_pairs, pairs_from_once, all_from_contains, length_listed, position_in, as_many, numbers_once, those}
 use Rattle.retrograde.proofs.Tables.{record_of}
 use Rattle.legal_moves.proofs.Distinct.{distinct-le}
-use Rattle.audit.specs.aid.Conditions.{sum_below, successors_in}
+use Rattle.audit.specs.lemmas.Conditions.{sum_below, successors_in}
 
 sum_add : (n : ℕ) (f g : ℕ → ℕ) → sum_below n (λ i. f i + g i) ≡ sum_below n f + sum_below n g
 sum_add zero f g = refl
@@ -90,7 +90,8 @@ module _ (known : List (List ℕ)) (test : ℕ → Bool) (js : List ℕ) (once :
       (λ here. here)
       (λ none.
       let more : length (j ∷ js) ≤ count_below (length known) test =
-      few_pass (j ∷ js) (none, once) (λ k here. ⊎_elim (λ at. (subst (λ (l : ℕ). l < length known) at lt, ap test (sym at) ∙ is)) (passes k) (first_or_later j k js here)) in
+      few_pass (j ∷ js) (none, once) (λ k here. ⊎_elim (λ at. (subst (λ (l : ℕ). l < length known) at lt, ap test (sym at) ∙ is)) (passes k)
+      (first_or_later j k js here)) in
       absurd (omega arith))
       (in_or_not js j)
 
@@ -151,7 +152,8 @@ module _ (graph : Graph (List ℕ)) (stored : Stored (List ℕ)) (table : IsTabl
       its_few p z at ys js its)
       (λ above.
       let (r, has) = record_of stored table p lt in
-      let none : r.successors ≡ 0 = waits_without r.state r (table.states p r has) (λ is. let within : p < expanded_count stored = (table.expanded p r has).0 is in absurd (omega arith)) in
+      let none : r.successors ≡ 0 = waits_without r.state r (table.states p r has)
+      (λ is. let within : p < expanded_count stored = (table.expanded p r has).0 is in absurd (omega arith)) in
       let e : kept p ≡ r.successors = kept_is p r has in
       omega arith)
       (cases_lt p (expanded_count stored))
@@ -170,7 +172,8 @@ module _ (graph : Graph (List ℕ)) (stored : Stored (List ℕ)) (table : IsTabl
       (z, at, within, its_all p z at ys js its same i x x_at edge))
       (λ above.
       let (r, has) = record_of stored table p lt in
-      let none : r.successors ≡ 0 = waits_without r.state r (table.states p r has) (λ is. let within : p < expanded_count stored = (table.expanded p r has).0 is in absurd (omega arith)) in
+      let none : r.successors ≡ 0 = waits_without r.state r (table.states p r has)
+      (λ is. let within : p < expanded_count stored = (table.expanded p r has).0 is in absurd (omega arith)) in
       let e : kept p ≡ r.successors = kept_is p r has in
       let some : 0 < out p = counted (λ j. stored.has_edge j p) size i i_lt edge in
       absurd (omega arith))

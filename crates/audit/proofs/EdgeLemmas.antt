@@ -2,8 +2,8 @@
 use Rattle.std.proofs.Common.{◌≡◌, ◌∙◌, sym, ap, ℕ, zero, suc, ◌+◌, ◌-◌, ◌<◌, ◌≤◌, ⊎_elim, false, Option, Some, None, refl, arith}
 use Rattle.retrograde.specs.Stored.{Stored, count_below}
 use Rattle.retrograde.specs.Edges.{IsAfter, IsNextEdge, HasNoMoreEdges}
-use Rattle.retrograde.proofs.Counting.{true_or_false, counts_one, counts_none}
-use Rattle.retrograde.proofs.Adding.{count_past}
+use Rattle.retrograde.proofs.CountLemmas.{true_or_false, counts_one, counts_none}
+use Rattle.retrograde.proofs.Additions.{count_past}
 
 -- the least number that a look after this one can give
 abbrev pub bound_of : Option ℕ → ℕ

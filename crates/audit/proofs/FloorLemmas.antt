@@ -3,9 +3,9 @@ use Rattle.std.proofs.Common.{◌≡◌, ◌∙◌, sym, ap, ℕ, ◌+◌, ◌<�
 use Rattle.std.proofs.lemmas.Bool.{cases_lt}
 use Rattle.std.proofs.lemmas.Option.{same_Some, slice_get_within}
 use Rattle.retrograde.specs.Stored.{Stored, IsTable}
-use Rattle.retrograde.proofs.Lowering.{get_set_same, get_set_other}
+use Rattle.retrograde.proofs.Predecessors.{get_set_same, get_set_other}
 use Rattle.retrograde.proofs.Tables.{valued_within}
-use Rattle.audit.specs.aid.Conditions.{distance_at, distance_before, AreFloors, IsFloor}
+use Rattle.audit.specs.lemmas.Conditions.{distance_at, distance_before, AreFloors, IsFloor}
 
 module _ {P : Type 0} (stored : Stored P) where
   -- what is in the order is known

@@ -1,4 +1,4 @@
-pub mod Passing
+pub mod Exits
 pub mod Lists
 pub mod ValueLemmas
 pub mod MoveValueLemmas

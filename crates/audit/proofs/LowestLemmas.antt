@@ -8,11 +8,11 @@ use Rattle.retrograde.specs.Stored.{Stored, IsTable, HasRecord, value_of, view_o
 use Rattle.retrograde.specs.Local.{end_value, IsMoveValue}
 use Rattle.retrograde.specs.Audit.{HasItsMoves, EdgesAreMoves, IsReached}
 use Rattle.retrograde.specs.Verdicts.{Reason, A1, A2, A3, A4, A5, A6, A7, number_of, condition_of}
-use Rattle.retrograde.proofs.Adding.{none_in_empty, is_first}
+use Rattle.retrograde.proofs.Additions.{none_in_empty, is_first}
 use Rattle.audit.specs.declared.verdict.Reason.{Reason as Answer}
 use Rattle.audit.specs.declared.verdict.Reason.TheVariants as answer
-use Rattle.audit.specs.aid.Conditions.{IsLowest, own_condition, order_condition, waiting_condition, value_condition, AreItsRecords}
-use Rattle.audit.specs.aid.Records.{HasThis, IsDueByRecords, one_more}
+use Rattle.audit.specs.lemmas.Conditions.{IsLowest, own_condition, order_condition, waiting_condition, value_condition, AreItsRecords}
+use Rattle.audit.specs.lemmas.Records.{HasThis, IsDueByRecords, one_more}
 use Rattle.audit.proofs.MoveValueLemmas.{value_from_due, one_value, record_in, record_for}
 
 module _ {P : Type 0} (graph : Graph P) (stored : Stored P) (i : ℕ) (x : P) where
@@ -290,8 +290,11 @@ module _ {P : Type 0} (graph : Graph P) (stored : Stored P) (i : ℕ) (x : P) (t
         go A7 = tt
 
     pub not_moves_so : (HasThis r due → ⊥) → IsLowest (value_condition graph stored i x) (Some answer.A6)
-    not_moves_so not_so =
-        ((λ holds. not_so (sym its_value ∙ one_value graph stored table x ((view_of stored).value i) (option_map one_more due) (holds within (has_move some)) move_value)), go)
+    not_moves_so not_so = (
+      (λ holds. not_so (sym its_value ∙ one_value graph stored table x ((view_of stored).value i) (option_map one_more due)
+          (holds within (has_move some)) move_value)),
+      go,
+    )
       where
         go : (q : Reason) → number_of q < 6 → value_condition graph stored i x q
         go A1 lt = tt

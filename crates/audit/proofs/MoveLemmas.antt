@@ -16,9 +16,9 @@ use Rattle.retrograde.specs.Graph.{Graph}
 use Rattle.retrograde.specs.Stored.{Stored, IsTable, HasRecord, view_of, is_processed, processed_in}
 use Rattle.retrograde.specs.Audit.{AreSuccessors, AreItsMoves, HasItsMoves}
 use Rattle.retrograde.proofs.ByEdges.{moves_by_list}
-use Rattle.retrograde.proofs.Listing.{number_in, as_many}
+use Rattle.retrograde.proofs.NumberLists.{number_in, as_many}
 use Rattle.legal_moves.specs.Listed.{ListsExactly}
-use Rattle.audit.specs.aid.Conditions.{AreItsRecords}
+use Rattle.audit.specs.lemmas.Conditions.{AreItsRecords}
 
 -- ascending bytes differ
 pub ascending_differ : (ys : List (List ℕ)) → AllPairs (λ x y. slice_cmp nat_cmp x y ≡ Less) ys → AllPairs ◌≢◌ ys
@@ -35,11 +35,13 @@ left_in_records stored [] [] zip = refl
 left_in_records stored [] (r ∷ records) zip = absurd zip
 left_in_records stored (j ∷ js) [] zip = absurd zip
 left_in_records stored (j ∷ js) (r ∷ records) zip =
-    let rest : count_by (λ i. not ((view_of stored).processed i)) js ≡ count_by (λ q. not (is_processed q.state)) records = left_in_records stored js records zip.1 in
+    let rest : count_by (λ i. not ((view_of stored).processed i)) js ≡ count_by
+    (λ q. not (is_processed q.state)) records = left_in_records stored js records zip.1 in
     let some : count_by (λ i. not ((view_of stored).processed i)) (j ∷ js)
     ≡ cond (not ((view_of stored).processed j)) 1 0 + count_by (λ i. not ((view_of stored).processed i)) js
     = sum_by-cons (λ i. cond (not ((view_of stored).processed i)) 1 0) j js in
-    let others : count_by (λ q. not (is_processed q.state)) (r ∷ records) ≡ cond (not (is_processed r.state)) 1 0 + count_by (λ q. not (is_processed q.state)) records
+    let others : count_by (λ q. not (is_processed q.state)) (r ∷ records) ≡ cond (not (is_processed r.state)) 1 0 + count_by
+    (λ q. not (is_processed q.state)) records
     = sum_by-cons (λ q. cond (not (is_processed q.state)) 1 0) r records in
     let here : (view_of stored).processed j ≡ is_processed r.state = ap (λ (o : Option Record). processed_in o) zip.0 in
     let one : ◌≡◌ {A = ℕ} (cond (not ((view_of stored).processed j)) 1 0) (cond (not (is_processed r.state)) 1 0) = ap (λ (b : Bool). cond (not b) 1 0) here in

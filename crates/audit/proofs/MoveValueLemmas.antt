@@ -13,11 +13,11 @@ use Rattle.retrograde.specs.Graph.{Graph, HasMove}
 use Rattle.retrograde.specs.View.{View, HasNumber, IsProcessed}
 use Rattle.retrograde.specs.Stored.{Stored, IsTable, HasRecord, is_processed, value_of, view_of, processed_in}
 use Rattle.retrograde.specs.Local.{IsProcessedFor, HasNoOwnWin, AllLeadTo, IsMoveValue, own_win, all_lead, still_open}
-use Rattle.retrograde.proofs.Adding.{is_first, is_later, first_or_later, only_first, none_in_empty}
-use Rattle.retrograde.proofs.Listing.{number_in, position_in, as_many}
+use Rattle.retrograde.proofs.Additions.{is_first, is_later, first_or_later, only_first, none_in_empty}
+use Rattle.retrograde.proofs.NumberLists.{number_in, position_in, as_many}
 use Rattle.retrograde.proofs.Tables.{processed_valued}
-use Rattle.audit.specs.aid.Conditions.{AreItsRecords}
-use Rattle.audit.specs.aid.Records.{told, HasNone, IsDueByRecords, one_more}
+use Rattle.audit.specs.lemmas.Conditions.{AreItsRecords}
+use Rattle.audit.specs.lemmas.Records.{told, HasNone, IsDueByRecords, one_more}
 
 zip_left : {A B : Type 0} (R : A → B → Type 0) (xs : List A) (ys : List B) → AllZip R xs ys → (x : A) → Contains xs x → (y : B) × Contains ys y × R x y
 zip_left R [] ys zip x here = absurd (none_in_empty x here)
@@ -128,7 +128,8 @@ module _ {P : Type 0} (graph : Graph P) (stored : Stored P) (table : IsTable sto
           let e : ◌≡◌ {A = Player × ℕ} (v, m) (w, n) = same_Some (v, m) (w, n) (sym v_is ∙ (ap (λ (q : Record). told q) same ∙ w_is)) in
           ap (λ (q : Player × ℕ). q.0) e
 
-  pub value_from_due : HasMove graph x → (due : Option (Player × ℕ)) → IsDueByRecords (graph.mover x) records due → IsMoveValue graph view x (option_map one_more due)
+  pub value_from_due : HasMove graph x → (due : Option (Player × ℕ)) → IsDueByRecords (graph.mover x) records due
+      → IsMoveValue graph view x (option_map one_more due)
   value_from_due (y, move) None (none, inl empty) =
       let (r, j, here, at, has) = record_for y move in
       absurd (none_in_empty r (subst (λ (rs : List Record). Contains rs r) empty here))
@@ -158,7 +159,8 @@ module _ {P : Type 0} (graph : Graph P) (stored : Stored P) (table : IsTable sto
 
 -- the processed successors of a position give it one value
 module _ {P : Type 0} (graph : Graph P) (stored : Stored P) (table : IsTable stored) (x : P) where
-  same_for : (y : P) (v w : Player) (m n : ℕ) → IsProcessedFor (view_of stored) v m y → IsProcessedFor (view_of stored) w n y → ◌≡◌ {A = Player × ℕ} (v, m) (w, n)
+  same_for : (y : P) (v w : Player) (m n : ℕ) → IsProcessedFor (view_of stored) v m y → IsProcessedFor (view_of stored) w n y
+      → ◌≡◌ {A = Player × ℕ} (v, m) (w, n)
   same_for y v w m n (j, j_at, _, j_is) (k, k_at, _, k_is) =
       let same : j ≡ k = table.distinct j k y j_at k_at in
       same_Some (v, m) (w, n) (sym j_is ∙ (ap (λ (l : ℕ). (view_of stored).value l) same ∙ k_is))

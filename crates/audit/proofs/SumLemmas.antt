@@ -7,7 +7,7 @@ use Rattle.retrograde.specs.Verdicts.{A2}
 use Rattle.retrograde.specs.Stored.{Stored, IsTable, count_below}
 use Rattle.audit.specs.declared.verdict.Verdict.TheVariants.{Right}
 use Rattle.audit.specs.Answers.{IsAnswer}
-use Rattle.audit.specs.aid.Conditions.{sum_below, successors_in}
+use Rattle.audit.specs.lemmas.Conditions.{sum_below, successors_in}
 use Rattle.audit.proofs.AnswerLemmas.{OwnSound, all_own}
 use Rattle.audit.proofs.CountLemmas.{no_strays}
 
@@ -22,7 +22,8 @@ module _ (graph : Graph (List ℕ)) (IsWide : List ℕ → Type 0) (stored : Sto
       → IsAnswer graph IsWide stored Right
   sums_right moves edges moves_are edges_are same =
       let equal : moves ≡ edges = ⊎_elim (λ (_, is). is) (λ (fails, _). let both : true ≡ false = sym same ∙ fails in cc) (eqb_tells moves edges) in
-      let sums : sum_below n (λ i. successors_in (slice_get stored.records i)) ≡ sum_below n (λ i. count_below (length stored.positions) (λ p. stored.has_edge i p))
+      let sums : sum_below n (λ i. successors_in (slice_get stored.records i)) ≡ sum_below n
+      (λ i. count_below (length stored.positions) (λ p. stored.has_edge i p))
       = sym moves_are ∙ (equal ∙ edges_are) in
       let whole = subst (λ (m : ℕ). sum_below m (λ i. successors_in (slice_get stored.records i))
       ≡ sum_below m (λ i. count_below (length stored.positions) (λ p. stored.has_edge i p))) all sums in

@@ -8,8 +8,8 @@ use Rattle.rbg_game.specs.declared.roles.Player.{Player}
 use Rattle.rbg_game.specs.declared.roles.Player.TheVariants.{First, Second}
 use Rattle.retrograde.specs.declared.records.Record.{Record}
 use Rattle.retrograde.proofs.Finished.{none_or_some}
-use Rattle.retrograde.proofs.Adding.{none_in_empty}
-use Rattle.audit.specs.aid.Records.{told, IsNearest, IsFarthest}
+use Rattle.retrograde.proofs.Additions.{none_in_empty}
+use Rattle.audit.specs.lemmas.Records.{told, IsNearest, IsFarthest}
 use Rattle.audit.proofs.Lists.{in_before}
 
 pub same_player : (v w : Player) → (v ≡ w) ⊎ (v ≡ w → ⊥)

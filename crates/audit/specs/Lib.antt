@@ -9,4 +9,4 @@ pub use Rattle.table.specs.Faults
 pub use Rattle.table.specs.Memory
 pub mod Answers
 pub mod Causes
-pub mod aid
+pub mod lemmas

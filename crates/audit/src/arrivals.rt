@@ -4,10 +4,9 @@ ghost use Rattle.retrograde.specs.View.{HasNumber};
 ghost use Rattle.retrograde.specs.Stored.{IsTable, view_of, expanded_count};
 ghost use Rattle.table.specs.Memory.{bytes_of_each};
 ghost use Rattle.table.specs.Faults.{NeedsNoPage};
-ghost use Rattle.audit.specs.Causes.{OfTableFault, HasWide};
-ghost use Rattle.audit.specs.aid.Edges.{CountsIf, IsMoveEdge, AreArrivals};
+ghost use Rattle.audit.specs.Causes.{HasCause, HasWide};
+ghost use Rattle.audit.specs.lemmas.Edges.{CountsIf, IsMoveEdge, AreArrivals};
 ghost use Rattle.table.specs.Frames.{IsRead};
-ghost use Rattle.audit.specs.declared.fault.AuditFault.TheVariants.{TooWide};
 
 use crate::edges::has_edge;
 use crate::fault::AuditFault;
@@ -81,11 +80,9 @@ fn count_moves<M: MoveSource, T: Table>(
         → OnOk result ((i : ℕ) (x : List ℕ) → HasNumber (view_of (T.stored table.old)) i x
         → CountsIf (IsMoveEdge (M.graph source.now) (T.stored table.old) i x from) arrivals.old.items arrivals.new.items i) }
     ensures lengths { length arrivals.new.items ≡ length arrivals.old.items }
-    ensures wide { T.is_honest table.old → from < expanded_count (T.stored table.old) → result ≡ Err TooWide
-        → HasWide (M.is_wide source.now) (T.stored table.old) }
     ensures read { IsRead T.stored T.is_honest T.counted T.stays table.old table.new }
-    ensures room { IfErr result (OfTableFault NeedsNoPage) }
-    ensures fault { IfErr result (OfTableFault (T.fails table.old table.new)) }
+    ensures err { IfErr result (HasCause (T.is_honest table.old → from < expanded_count (T.stored table.old)
+        → HasWide (M.is_wide source.now) (T.stored table.old)) (T.fails table.old table.new)) }
 {
     let packed = table.packed(from)?;
     let found = source.successors(alloc, &packed)?;
@@ -103,10 +100,9 @@ pub fn arrivals<M: MoveSource, T: Table>(
     ensures arrivals { T.is_honest table.old → IsTable (T.stored table.old) → IfOk result (λ arrivals.
         AreArrivals (M.graph source.now) (T.stored table.old) (expanded_count (T.stored table.old)) arrivals.items) }
     ensures lengths { IfOk result (λ arrivals. length arrivals.items ≡ (T.counted table.old).known) }
-    ensures wide { T.is_honest table.old → result ≡ Err TooWide → HasWide (M.is_wide source.now) (T.stored table.old) }
     ensures read { IsRead T.stored T.is_honest T.counted T.stays table.old table.new }
-    ensures room { IfErr result (OfTableFault NeedsNoPage) }
-    ensures fault { IfErr result (OfTableFault (T.fails table.old table.new)) }
+    ensures err { IfErr result (HasCause
+        (T.is_honest table.old → HasWide (M.is_wide source.now) (T.stored table.old)) (T.fails table.old table.new)) }
 {
     let counts = table.counts();
     let mut arrivals = vec![in alloc; 0; counts.known as usize]?;

@@ -8,10 +8,9 @@ ghost use Rattle.retrograde.specs.Stored.{HasRecord, IsTable, view_of, is_proces
 ghost use Rattle.retrograde.specs.Audit.{HasItsMoves};
 ghost use Rattle.table.specs.Memory.{bytes_of_each};
 ghost use Rattle.table.specs.Faults.{NeedsNoPage};
-ghost use Rattle.audit.specs.Causes.{OfTableFault};
-ghost use Rattle.audit.specs.aid.Conditions.{AreItsRecords};
+ghost use Rattle.audit.specs.Causes.{HasCause};
+ghost use Rattle.audit.specs.lemmas.Conditions.{AreItsRecords};
 ghost use Rattle.table.specs.Frames.{IsRead};
-ghost use Rattle.audit.specs.declared.fault.AuditFault.TheVariants.{TooWide};
 
 use crate::edges::has_edge;
 use crate::fault::AuditFault;
@@ -33,10 +32,8 @@ fn numbers_of<T: Table>(
     ensures unknown { T.is_honest table.old → IfOk result (λ r. IfNone r ((y : List ℕ) × Contains (bytes_of_each positions.now) y
         × ((j : ℕ) → slice_get (T.stored table.old).positions j ≡ Some y → ⊥))) }
     ensures within { IfOk result (λ r. IfSome r (λ numbers. All (λ j. j < (T.counted table.old).known) numbers.items)) }
-    ensures narrow { IfErr result (λ fault. ¬ (fault ≡ TooWide)) }
     ensures read { IsRead T.stored T.is_honest T.counted T.stays table.old table.new }
-    ensures room { IfErr result (OfTableFault NeedsNoPage) }
-    ensures fault { IfErr result (OfTableFault (T.fails table.old table.new)) }
+    ensures err { IfErr result (HasCause ⊥ (T.fails table.old table.new)) }
 {
     let mut numbers = Vec::new(alloc);
     for position in positions {
@@ -72,10 +69,8 @@ fn records_of<T: Table>(
 ) -> Result<Vec<Record>, AuditFault>
     requires { All (λ j. j < (T.counted table.old).known) numbers.now }
     ensures records { T.is_honest table.old → IfOk result (λ records. AllZip (HasRecord (T.stored table.old)) numbers.now records.items) }
-    ensures narrow { IfErr result (λ fault. ¬ (fault ≡ TooWide)) }
     ensures read { IsRead T.stored T.is_honest T.counted T.stays table.old table.new }
-    ensures room { IfErr result (OfTableFault NeedsNoPage) }
-    ensures fault { IfErr result (OfTableFault (T.fails table.old table.new)) }
+    ensures err { IfErr result (HasCause ⊥ (T.fails table.old table.new)) }
 {
     let mut records = Vec::new(alloc);
     for number in numbers {
@@ -116,10 +111,8 @@ pub fn successors_of<M: MoveSource, T: Table>(
     ensures fails { T.is_honest table.old → IsTable (T.stored table.old) → HasRecord (T.stored table.old) number kept
         → IfOk result (λ r. IfNone r (HasItsMoves (M.graph source.now) (T.stored table.old) number at.now.items → ⊥)) }
     ensures narrow { IsOk result → ¬ M.is_wide source.now at.now.items }
-    ensures wide { result ≡ Err TooWide → M.is_wide source.now at.now.items }
     ensures read { IsRead T.stored T.is_honest T.counted T.stays table.old table.new }
-    ensures room { IfErr result (OfTableFault NeedsNoPage) }
-    ensures fault { IfErr result (OfTableFault (T.fails table.old table.new)) }
+    ensures err { IfErr result (HasCause (M.is_wide source.now at.now.items) (T.fails table.old table.new)) }
 {
     let found = source.successors(alloc, at)?;
     let Some(numbers) = numbers_of(alloc, table, &found)? else {

@@ -5,12 +5,11 @@ ghost use Rattle.retrograde.specs.Stored.{HasRecord, IsTable, view_of, expanded_
 ghost use Rattle.retrograde.specs.Audit.{IsReached};
 ghost use Rattle.retrograde.specs.Verdicts.{condition_of};
 ghost use Rattle.table.specs.Faults.{NeedsNoPage};
-ghost use Rattle.audit.specs.Causes.{OfTableFault, HasWide};
-ghost use Rattle.audit.specs.aid.Conditions.{IsLowest, own_condition, IsFloor};
-ghost use Rattle.audit.specs.aid.Edges.{IsArriving};
+ghost use Rattle.audit.specs.Causes.{HasCause, HasWide};
+ghost use Rattle.audit.specs.lemmas.Conditions.{IsLowest, own_condition, IsFloor};
+ghost use Rattle.audit.specs.lemmas.Edges.{IsArriving};
 ghost use Rattle.table.specs.Frames.{IsRead};
 ghost use Rattle.audit.specs.declared.verdict.Reason.TheVariants.{A1, A2};
-ghost use Rattle.audit.specs.declared.fault.AuditFault.TheVariants.{TooWide};
 
 use crate::edges::count_edges;
 use crate::fault::AuditFault;
@@ -63,11 +62,10 @@ fn later_failing<M: MoveSource, T: Table>(
         → IfOk result (IsLowest (own_condition (M.graph source.now) (T.stored table.old) number at.now.items)) }
     ensures narrow { T.is_honest table.old → result ≡ Ok None → number < expanded_count (T.stored table.old)
         → ¬ M.is_wide source.now at.now.items }
-    ensures wide { T.is_honest table.old → result ≡ Err TooWide
-        → (number < expanded_count (T.stored table.old)) × M.is_wide source.now at.now.items }
     ensures read { IsRead T.stored T.is_honest T.counted T.stays table.old table.new }
-    ensures room { IfErr result (OfTableFault NeedsNoPage) }
-    ensures fault { IfErr result (OfTableFault (T.fails table.old table.new)) }
+    ensures err { IfErr result (HasCause
+        (T.is_honest table.old → (number < expanded_count (T.stored table.old)) × M.is_wide source.now at.now.items)
+        (T.fails table.old table.new)) }
 {
     let counts = table.counts();
     if number >= counts.expanded {
@@ -97,10 +95,9 @@ pub fn own_failing<M: MoveSource, T: Table>(
         → IfOk result (IsLowest (own_condition (M.graph source.now) (T.stored table.old) number x)) }
     ensures narrow { T.is_honest table.old → result ≡ Ok None → (x : List ℕ) → HasNumber (view_of (T.stored table.old)) number x
         → number < expanded_count (T.stored table.old) → ¬ M.is_wide source.now x }
-    ensures wide { T.is_honest table.old → result ≡ Err TooWide → HasWide (M.is_wide source.now) (T.stored table.old) }
     ensures read { IsRead T.stored T.is_honest T.counted T.stays table.old table.new }
-    ensures room { IfErr result (OfTableFault NeedsNoPage) }
-    ensures fault { IfErr result (OfTableFault (T.fails table.old table.new)) }
+    ensures err { IfErr result (HasCause
+        (T.is_honest table.old → HasWide (M.is_wide source.now) (T.stored table.old)) (T.fails table.old table.new)) }
 {
     let at = table.packed(number)?;
     let kept = table.record(number)?;
@@ -136,10 +133,9 @@ pub fn failing<M: MoveSource, T: Table>(
         → IfOk result (IsLowest (condition_of (M.graph source.now) (T.stored table.old) number x)) }
     ensures narrow { T.is_honest table.old → result ≡ Ok None → (x : List ℕ) → HasNumber (view_of (T.stored table.old)) number x
         → number < expanded_count (T.stored table.old) → ¬ M.is_wide source.now x }
-    ensures wide { T.is_honest table.old → result ≡ Err TooWide → HasWide (M.is_wide source.now) (T.stored table.old) }
     ensures read { IsRead T.stored T.is_honest T.counted T.stays table.old table.new }
-    ensures room { IfErr result (OfTableFault NeedsNoPage) }
-    ensures fault { IfErr result (OfTableFault (T.fails table.old table.new)) }
+    ensures err { IfErr result (HasCause
+        (T.is_honest table.old → HasWide (M.is_wide source.now) (T.stored table.old)) (T.fails table.old table.new)) }
 {
     let own = own_failing(alloc, source, table, number, floor)?;
     if is_lower(own) {

@@ -2,10 +2,9 @@
 ghost use Rattle.std.specs.Prelude.{◌≡◌, ◌<◌, ℕ, Some, IfOk, OnOk, IfErr, length, slice_get, slice_set};
 ghost use Rattle.retrograde.specs.Stored.{IsTable};
 ghost use Rattle.table.specs.Faults.{NeedsNoPage};
-ghost use Rattle.audit.specs.Causes.{OfTableFault};
-ghost use Rattle.audit.specs.aid.Conditions.{AreFloors, distance_at};
+ghost use Rattle.audit.specs.Causes.{HasCause};
+ghost use Rattle.audit.specs.lemmas.Conditions.{AreFloors, distance_at};
 ghost use Rattle.table.specs.Frames.{IsRead};
-ghost use Rattle.audit.specs.declared.fault.AuditFault.TheVariants.{TooWide};
 
 use crate::fault::AuditFault;
 use std::alloc::Global;
@@ -43,10 +42,8 @@ pub fn floors<T: Table>(alloc: Global, table: &mut T) -> Result<Vec<u32>, AuditF
     ensures floors { T.is_honest table.old → IsTable (T.stored table.old)
         → IfOk result (λ floors. AreFloors (T.stored table.old) (length (T.stored table.old).order) floors.items) }
     ensures lengths { IfOk result (λ floors. length floors.items ≡ (T.counted table.old).known) }
-    ensures narrow { IfErr result (λ fault. ¬ (fault ≡ TooWide)) }
     ensures read { IsRead T.stored T.is_honest T.counted T.stays table.old table.new }
-    ensures room { IfErr result (OfTableFault NeedsNoPage) }
-    ensures fault { IfErr result (OfTableFault (T.fails table.old table.new)) }
+    ensures err { IfErr result (HasCause ⊥ (T.fails table.old table.new)) }
 {
     let counts = table.counts();
     let mut floors = vec![in alloc; 0; counts.known as usize]?;

@@ -1,14 +1,12 @@
 //! The first look at a table, for which the moves of each position are searched once.
-ghost use Rattle.std.specs.Prelude.{◌≡◌, ◌<◌, ℕ, List, true, IfOk, OnOk, IfErr, IfSome, Err, Ok, None, length, slice_get};
-ghost use Rattle.retrograde.specs.View.{HasNumber};
-ghost use Rattle.retrograde.specs.Stored.{IsTable, view_of, expanded_count, count_below};
-ghost use Rattle.table.specs.Faults.{NeedsNoPage};
+ghost use Rattle.std.specs.Prelude.{◌≡◌, ◌<◌, true, IfOk, IfErr, IfSome, Ok, length};
+ghost use Rattle.retrograde.specs.Stored.{IsTable};
 ghost use Rattle.audit.specs.Answers.{IsAnswer};
-ghost use Rattle.audit.specs.Causes.{OfTableFault, HasWide};
-ghost use Rattle.audit.specs.aid.Conditions.{IsLowest, own_condition, IsFloor, AreFloors, successors_in};
+ghost use Rattle.audit.specs.Causes.{HasCause, HasWide};
+ghost use Rattle.audit.specs.lemmas.Conditions.{AreFloors};
+ghost use Rattle.audit.specs.lemmas.Tallies.{IsTallied};
 ghost use Rattle.table.specs.Frames.{IsRead};
 ghost use Rattle.audit.specs.declared.verdict.Verdict.TheVariants.{Right};
-ghost use Rattle.audit.specs.declared.fault.AuditFault.TheVariants.{TooWide};
 
 use crate::edges::count_edges;
 use crate::fault::AuditFault;
@@ -35,19 +33,12 @@ fn tally_of<M: MoveSource, T: Table>(
 ) -> Result<Option<Tally>, AuditFault>
     requires source { M.is_sound source.now }
     requires known { number < (T.counted table.old).known }
-    ensures holds { T.is_honest table.old → IsTable (T.stored table.old) → IsFloor (T.stored table.old) number floor
-        → IfOk result (λ r. IfSome r (λ tally. (x : List ℕ) → HasNumber (view_of (T.stored table.old)) number x
-        → IsLowest (own_condition (M.graph source.now) (T.stored table.old) number x) None)) }
-    ensures narrow { T.is_honest table.old → IfOk result (λ r. IfSome r (λ tally. (x : List ℕ)
-        → HasNumber (view_of (T.stored table.old)) number x → number < expanded_count (T.stored table.old) → ¬ M.is_wide source.now x)) }
-    ensures moves { T.is_honest table.old → IfOk result (λ r. IfSome r (λ tally.
-        tally.moves ≡ successors_in (slice_get (T.stored table.old).records number))) }
-    ensures edges { T.is_honest table.old → IfOk result (λ r. IfSome r (λ tally.
-        tally.edges ≡ count_below (length (T.stored table.old).positions) (λ p. (T.stored table.old).has_edge number p))) }
-    ensures wide { T.is_honest table.old → result ≡ Err TooWide → HasWide (M.is_wide source.now) (T.stored table.old) }
+    ensures tally { T.is_honest table.old → IfOk result (λ r. IfSome r (λ tally.
+        IsTallied (M.graph source.now) (M.is_wide source.now) (T.stored table.old) number floor
+        tally.moves tally.edges)) }
     ensures read { IsRead T.stored T.is_honest T.counted T.stays table.old table.new }
-    ensures room { IfErr result (OfTableFault NeedsNoPage) }
-    ensures fault { IfErr result (OfTableFault (T.fails table.old table.new)) }
+    ensures err { IfErr result (HasCause
+        (T.is_honest table.old → HasWide (M.is_wide source.now) (T.stored table.old)) (T.fails table.old table.new)) }
 {
     let edges = count_edges(table, number)?;
     let moves = table.record(number)?.successors;
@@ -70,10 +61,9 @@ pub fn adds_up<M: MoveSource, T: Table>(
     ensures right { T.is_honest table.old → IsTable (T.stored table.old)
         → AreFloors (T.stored table.old) (length (T.stored table.old).order) floors.now → result ≡ Ok true
         → IsAnswer (M.graph source.now) (M.is_wide source.now) (T.stored table.old) Right }
-    ensures wide { T.is_honest table.old → result ≡ Err TooWide → HasWide (M.is_wide source.now) (T.stored table.old) }
     ensures read { IsRead T.stored T.is_honest T.counted T.stays table.old table.new }
-    ensures room { IfErr result (OfTableFault NeedsNoPage) }
-    ensures fault { IfErr result (OfTableFault (T.fails table.old table.new)) }
+    ensures err { IfErr result (HasCause
+        (T.is_honest table.old → HasWide (M.is_wide source.now) (T.stored table.old)) (T.fails table.old table.new)) }
 {
     let mut moves: u64 = 0;
     let mut edges: u64 = 0;

@@ -4,8 +4,8 @@ ghost use Rattle.rbg_game.specs.declared.roles.Player.{Player};
 ghost use Rattle.retrograde.specs.Local.{end_value};
 ghost use Rattle.retrograde.specs.Stored.{Stored, HasRecord, IsTable, expanded_count, value_of};
 ghost use Rattle.retrograde.specs.Changes.{counts_of};
-ghost use Rattle.audit.specs.aid.Conditions.{IsLowest, order_condition, waiting_condition, value_condition, IsFloor, AreItsRecords};
-ghost use Rattle.audit.specs.aid.Records.{told, IsNearest, IsFarthest, IsDueByRecords, HasThis};
+ghost use Rattle.audit.specs.lemmas.Conditions.{IsLowest, order_condition, waiting_condition, value_condition, IsFloor, AreItsRecords};
+ghost use Rattle.audit.specs.lemmas.Records.{told, IsNearest, IsFarthest, IsDueByRecords, HasThis};
 
 use crate::verdict::Reason;
 use legal_moves::MoveSource;

@@ -5,9 +5,9 @@ ghost use Rattle.retrograde.specs.Stored.{IsTable, view_of, expanded_count};
 ghost use Rattle.retrograde.specs.Sound.{IsLocallySound};
 ghost use Rattle.table.specs.Faults.{NeedsNoPage};
 ghost use Rattle.audit.specs.Answers.{IsAnswer, IsTableSo};
-ghost use Rattle.audit.specs.Causes.{OfTableFault, HasWide};
-ghost use Rattle.audit.specs.aid.Conditions.{AreFloors};
-ghost use Rattle.audit.specs.aid.Edges.{AreArrivals};
+ghost use Rattle.audit.specs.Causes.{OfTableFault, HasCause, HasWide};
+ghost use Rattle.audit.specs.lemmas.Conditions.{AreFloors};
+ghost use Rattle.audit.specs.lemmas.Edges.{AreArrivals};
 ghost use Rattle.table.specs.Frames.{IsRead};
 ghost use Rattle.audit.specs.declared.verdict.Verdict.TheVariants.{Right};
 ghost use Rattle.audit.specs.declared.fault.AuditFault.TheVariants.{TooWide};
@@ -37,10 +37,9 @@ fn first_wrong<M: MoveSource, T: Table>(
         → AreFloors (T.stored table.old) (length (T.stored table.old).order) floors.now
         → AreArrivals (M.graph source.now) (T.stored table.old) (expanded_count (T.stored table.old)) arrivals.now
         → IfOk result (IsAnswer (M.graph source.now) (M.is_wide source.now) (T.stored table.old)) }
-    ensures wide { T.is_honest table.old → result ≡ Err TooWide → HasWide (M.is_wide source.now) (T.stored table.old) }
     ensures read { IsRead T.stored T.is_honest T.counted T.stays table.old table.new }
-    ensures room { IfErr result (OfTableFault NeedsNoPage) }
-    ensures fault { IfErr result (OfTableFault (T.fails table.old table.new)) }
+    ensures err { IfErr result (HasCause
+        (T.is_honest table.old → HasWide (M.is_wide source.now) (T.stored table.old)) (T.fails table.old table.new)) }
 {
     for number in 0..table.counts().known {
         let floor = floors[number as usize];

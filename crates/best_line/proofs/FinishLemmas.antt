@@ -14,7 +14,7 @@ use Rattle.retrograde.proofs.Finished.{element}
 use Rattle.best_line.specs.declared.answers.Value.{Value}
 use Rattle.best_line.specs.declared.answers.Value.TheVariants.{Won, Drawn, Open}
 use Rattle.best_line.specs.Values.{IsValue, IsComplete}
-use Rattle.best_line.specs.aid.Values.{IsUnsettled}
+use Rattle.best_line.specs.lemmas.Values.{IsUnsettled}
 
 -- a processed position is settled
 processed_counts_less : (s : State) → cond (is_processed s) 1 0 ≤ cond (is_settled s) 1 0
@@ -27,12 +27,14 @@ processed_counts_less Processed = omega arith
 pub all_of_order : {P : Type 0} (stored : Stored P) → IsTable stored → IsFinished (view_of stored) → processed_count stored ≡ length stored.order
 all_of_order stored table finished =
     let most : processed_count stored ≤ settled_count stored =
-    sum_by-le-sum_by (λ (r : Record). cond (is_processed r.state) 1 0) (λ (r : Record). cond (is_settled r.state) 1 0) stored.records (λ r. processed_counts_less r.state) in
+    sum_by-le-sum_by (λ (r : Record). cond (is_processed r.state) 1 0) (λ (r : Record). cond (is_settled r.state) 1 0) stored.records
+    (λ r. processed_counts_less r.state) in
     let counted : length stored.order ≡ settled_count stored = table.counted in
     ⊎_elim
     (λ less.
     let (i, at) = element stored.order (processed_count stored) less in
-    let here : processed_count stored < processed_count stored = (table.processed (processed_count stored) i at).0 (finished.all_processed i (table.settled (processed_count stored) i at)) in
+    let here : processed_count stored < processed_count stored = (table.processed (processed_count stored) i at).0
+    (finished.all_processed i (table.settled (processed_count stored) i at)) in
     absurd (omega arith))
     (λ enough. omega arith)
     (cases_lt (processed_count stored) (length stored.order))
@@ -51,7 +53,8 @@ pub finished_complete : {P : Type 0} (stored : Stored P) → IsTable stored → 
 finished_complete stored table finished = (finished.all_expanded, all_of_order stored table finished)
 
 -- the value of a position that is not settled, by the counts of the table
-pub unsettled_value : {P : Type 0} (stored : Stored P) (counts : Counts) → counts ≡ counts_of stored → IsTable stored → (i : ℕ) → (view_of stored).value i ≡ None
+pub unsettled_value : {P : Type 0} (stored : Stored P) (counts : Counts) → counts ≡ counts_of stored → IsTable stored → (i : ℕ)
+    → (view_of stored).value i ≡ None
     → (v : Value) → IsUnsettled counts v → IsValue (view_of stored) i v
 unsettled_value stored counts is table i none (Won w n) it = absurd it
 unsettled_value stored counts is table i none Drawn it = (none, complete_finished stored table (subst (λ (c : Counts). IsComplete c) is it))

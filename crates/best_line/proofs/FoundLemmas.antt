@@ -15,12 +15,12 @@ use Rattle.retrograde.specs.View.{View}
 use Rattle.legal_moves.specs.Listed.{ShownMove, ListsExactly, IsSuccessorBytes, IsShownMove, IsShortestMove}
 use Rattle.legal_moves.specs.Moves.{ShowsFrom}
 use Rattle.legal_moves.specs.Sources.{IsAt, IsMoveBetween}
-use Rattle.legal_moves.specs.aid.Repacked.{IsRepacked, AreRepacked}
-use Rattle.legal_moves.proofs.ReachLemmas.{position_of}
-use Rattle.legal_moves.proofs.RepackLemmas.{lists_repacked}
-use Rattle.legal_moves.proofs.SourceLemmas.{one_position, at_by_packed, packed_by_at}
+use Rattle.legal_moves.specs.lemmas.Repacked.{IsRepacked, AreRepacked}
+use Rattle.legal_moves.proofs.answers.ReachLemmas.{position_of}
+use Rattle.legal_moves.proofs.answers.RepackLemmas.{lists_repacked}
+use Rattle.legal_moves.proofs.answers.SourceLemmas.{one_position, at_by_packed, packed_by_at}
 use Rattle.best_line.specs.Moves.{IsKnownAs, IsKnownMove, modifiers_of}
-use Rattle.best_line.specs.aid.Found.{AreToldMoves, IsToldMove, LeadsToPosition}
+use Rattle.best_line.specs.lemmas.Found.{AreToldMoves, IsToldMove, LeadsToPosition}
 use Rattle.best_line.specs.declared.known.KnownMove.{KnownMove}
 
 none : ShownMove
@@ -52,7 +52,8 @@ leads_to game (Some m) items bytes form next at same is packed =
     let h = at_by_packed Bytes game form bytes next is packed in
     record { position_is = h.position_is; bytes_are = e ∙ sym same ∙ h.bytes_are }
 
-pub position_found : (game : Game) (found : List ShownMove) (k : ℕ) (next : Position) → k < length found → IfSome (slice_get found k) (λ m. IsAt Bytes game m.next next)
+pub position_found : (game : Game) (found : List ShownMove) (k : ℕ) (next : Position) → k < length found
+    → IfSome (slice_get found k) (λ m. IsAt Bytes game m.next next)
     → IsPositionOf game next
 position_found game found k next lt at =
     let here : IsAt Bytes game (get_or found k none).next next =
@@ -87,9 +88,11 @@ module _ (kind : PackingKind) (game : Game) (view : View (List ℕ)) where
   module _ (sound : IsSoundGame game) (bytes : List ℕ) (at : Position) (here : IsAt kind game bytes at) (found : List ShownMove) (moves : List KnownMove)
       (told : AreToldMoves kind game view found moves) where
     -- where they lead are the successors
-    pub are_successors : ListsExactly (IsSuccessorBytes game at) (map (λ m. m.next) found) → ListsExactly (IsMoveBetween kind game bytes) (map (λ m. m.packed.items) moves)
+    pub are_successors : ListsExactly (IsSuccessorBytes game at) (map (λ m. m.next) found)
+        → ListsExactly (IsMoveBetween kind game bytes) (map (λ m. m.packed.items) moves)
     are_successors listed =
-        lists_repacked kind game sound bytes at here (map (λ m. m.next) found) (map (λ m. m.packed.items) moves) (repacked_of found moves told.as_many told.each) listed
+        lists_repacked kind game sound bytes at here (map (λ m. m.next) found) (map (λ m. m.packed.items) moves)
+        (repacked_of found moves told.as_many told.each) listed
 
     one_known : (m : ShownMove) (move : KnownMove) → IsShortestMove game at m → IsToldMove kind game view m move → IsKnownMove kind game view at move
     one_known m move (next, w, shown, short) it =

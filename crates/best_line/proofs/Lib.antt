@@ -1,8 +1,8 @@
 pub mod FoundLemmas
 pub mod FaultLemmas
-pub mod Passing
+pub mod Exits
 pub mod ListLemmas
-pub mod Joining
+pub mod RowLists
 pub mod FinishLemmas
 mod StepLemmas
 mod LineLemmas

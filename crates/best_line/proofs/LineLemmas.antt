@@ -61,12 +61,15 @@ module _ (graph : Graph (List ℕ)) (view : View (List ℕ)) (w : Player) where
 module _ (graph : Graph (List ℕ)) (IsWide : List ℕ → Type 0) (stored : Stored (List ℕ)) (sound : IsLocallySound graph IsWide stored) (w : Player) (n number : ℕ)
     (value : (view_of stored).value number ≡ Some (w, n)) where
   -- in a sound table a best line is a play from where it begins
-  best_play : (numbers : List ℕ) → IsBestLine graph (view_of stored) w n numbers → slice_get numbers 0 ≡ Some number → IsBestPlay graph (view_of stored) number numbers
+  best_play : (numbers : List ℕ) → IsBestLine graph (view_of stored) w n numbers → slice_get numbers 0 ≡ Some number
+      → IsBestPlay graph (view_of stored) number numbers
   best_play [] line begins = cc
   best_play (i ∷ rest) line begins =
       let same : number ≡ i = sym (same_Some i number begins) in
-      let (x, at) = known_number graph IsWide stored sound number (valued_known graph IsWide stored sound number (is_some_at ((view_of stored).value number) (w, n) value)) in
-      let (xs, are, play) = line_play graph (view_of stored) w (sound_right graph IsWide stored sound) n i rest x (subst (λ (k : ℕ). HasNumber (view_of stored) k x) same at) line in
+      let (x, at) = known_number graph IsWide stored sound number
+      (valued_known graph IsWide stored sound number (is_some_at ((view_of stored).value number) (w, n) value)) in
+      let (xs, are, play) = line_play graph (view_of stored) w (sound_right graph IsWide stored sound) n i rest x
+      (subst (λ (k : ℕ). HasNumber (view_of stored) k x) same at) line in
       record { winner = w; distance = n; value = value; begins = begins; line = line; positions = x ∷ xs; are = are; play = play }
 
   -- the same of an answer
@@ -76,7 +79,8 @@ module _ (graph : Graph (List ℕ)) (IsWide : List ℕ → Type 0) (stored : Sto
   answers_play items (Err e) line begins = tt
 
 -- an answer that is a best line is the line that the table tells
-pub answers_told : (graph : Graph (List ℕ)) (view : View (List ℕ)) (w : Player) (n number : ℕ) → view.value number ≡ Some (w, n) → {V E : Type 0} (items : V → List ℕ)
+pub answers_told : (graph : Graph (List ℕ)) (view : View (List ℕ)) (w : Player) (n number : ℕ) → view.value number ≡ Some (w, n)
+    → {V E : Type 0} (items : V → List ℕ)
     (result : Result V E) → IfOk result (λ v. IsBestLine graph view w n (items v)) → IfOk result (λ v. slice_get (items v) 0 ≡ Some number)
     → IfOk result (λ v. IsToldLine graph view number (items v))
 answers_told graph view w n number value items (Ok v) line begins = record { winner = w; distance = n; value = value; begins = begins; line = line }

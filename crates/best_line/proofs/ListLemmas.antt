@@ -6,8 +6,8 @@ use Rattle.std.proofs.lemmas.Option.{slice_get-get_or, same_Some}
 use Rattle.std.proofs.lemmas.List.{get_or-map, length-map}
 use Rattle.rbg_game.specs.declared.roles.Player.{Player}
 use Rattle.retrograde.specs.View.{View, HasNumber, HasValue}
-use Rattle.retrograde.proofs.Adding.{push_cases}
-use Rattle.best_line.specs.aid.Lines.{IsFirstWon}
+use Rattle.retrograde.proofs.Additions.{push_cases}
+use Rattle.best_line.specs.lemmas.Lines.{IsFirstWon}
 
 -- what holds of each row and of the one that is pushed holds of each row then
 pub each_push : {A : Type 0} (Holds : ℕ → A → Type 0) (rows pushed : List A) (row : A) → pushed ≡ rows ++ row ∷ []

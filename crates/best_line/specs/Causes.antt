@@ -4,6 +4,7 @@ use Rattle.legal_moves.specs.declared.fault.MoveFault.{MoveFault}
 use Rattle.legal_moves.specs.declared.fault.MoveFault.TheVariants as search
 use Rattle.retrograde.specs.Graph.{Graph}
 use Rattle.retrograde.specs.View.{View}
+use Rattle.table.specs.Faults.{NeedsNoPage}
 use Rattle.table.specs.declared.fault.TableFault.{TableFault}
 use Rattle.best_line.specs.declared.fault.LineFault.{LineFault}
 use Rattle.best_line.specs.Lines.{BreaksOff, MeetsWide}
@@ -38,3 +39,26 @@ OfTable fails Inconsistent = Unit {0}
 OfTable fails TooWide = Unit {0}
 OfTable fails OutOfMemory = Unit {0}
 OfTable fails (Table fault) = fails fault
+
+-- what is so of a fault of the table, where it is only read: it is no want of a page, and has the table's cause
+pub record IsOfReading (Fails : TableFault → Type 0) (told : TableFault) : Type 0 where
+  pub room : NeedsNoPage told
+  pub fault : Fails told
+
+-- what is so of a fault of one step of a line: which it is tells what is so of the position, and it is never that
+-- there is no winner
+pub record HasStepCause (None Wide : Type 0) (Fails : TableFault → Type 0) (told : LineFault) : Type 0 where
+  pub none : told ≡ Inconsistent → None
+  pub wide : told ≡ TooWide → Wide
+  pub settled : ¬ (told ≡ NotSettled)
+  pub room : OfTable NeedsNoPage told
+  pub fault : OfTable Fails told
+
+-- what is so of a fault of the line from a position that has a winner
+pub record HasLineCause (Cause Stops : LineFault → Type 0) (Fails : TableFault → Type 0) (told : LineFault)
+    : Type 0 where
+  pub cause : Cause told
+  pub stops : Stops told
+  pub settled : ¬ (told ≡ NotSettled)
+  pub room : OfTable NeedsNoPage told
+  pub fault : OfTable Fails told

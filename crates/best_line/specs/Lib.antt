@@ -16,4 +16,4 @@ pub mod Rows
 pub mod Lines
 pub mod Causes
 pub mod Laws
-pub mod aid
+pub mod lemmas

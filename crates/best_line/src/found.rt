@@ -3,7 +3,7 @@ ghost use Rattle.std.specs.Prelude.{◌<◌, All, IfSome, length, slice_get};
 ghost use Rattle.legal_moves.specs.Compiled.{compiled_game, IsSoundCompiled};
 ghost use Rattle.legal_moves.specs.Sources.{IsAt};
 ghost use Rattle.position_pack.specs.declared.kind.PackingKind.TheVariants.{Bytes};
-ghost use Rattle.best_line.specs.aid.Found.{LeadsToPosition};
+ghost use Rattle.best_line.specs.lemmas.Found.{LeadsToPosition};
 
 use legal_moves::{Compiled, Moves};
 use position_pack::{Packing, PackingKind};

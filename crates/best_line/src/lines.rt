@@ -3,8 +3,7 @@ ghost use Rattle.std.specs.Prelude.{◌≡◌, ◌↔◌, ◌<◌, IfOk, OnOk, I
 ghost use Rattle.retrograde.specs.Stored.{IsTable, view_of};
 ghost use Rattle.retrograde.specs.Sound.{IsLocallySound};
 ghost use Rattle.best_line.specs.Lines.{IsBestLine, IsBestPlay, IsToldLine};
-ghost use Rattle.best_line.specs.Causes.{IsLineCause, LineStops, OfTable};
-ghost use Rattle.best_line.specs.declared.fault.LineFault.TheVariants.{NotSettled};
+ghost use Rattle.best_line.specs.Causes.{HasLineCause, IsLineCause, LineStops, OfTable};
 ghost use Rattle.table.specs.Faults.{NeedsNoPage};
 ghost use Rattle.table.specs.Frames.{IsRead};
 
@@ -32,16 +31,16 @@ fn follow<M: MoveSource, T: Table>(
         → (view_of (T.stored table.old)).value number ≡ Some (winner, distance)
         → IfOk result (λ numbers. IsBestLine (M.graph source.now) (view_of (T.stored table.old)) winner distance numbers.items) }
     ensures begins { IfOk result (λ numbers. slice_get numbers.items 0 ≡ Some number) }
-    ensures cause { T.is_honest table.old → IsLocallySound (M.graph source.now) (M.is_wide source.now) (T.stored table.old)
-        → (view_of (T.stored table.old)).value number ≡ Some (winner, distance)
-        → IfErr result (IsLineCause (view_of (T.stored table.old)) number) }
-    ensures stops { T.is_honest table.old → IsTable (T.stored table.old)
-        → (view_of (T.stored table.old)).value number ≡ Some (winner, distance)
-        → IfErr result (LineStops (M.graph source.now) (M.is_wide source.now) (view_of (T.stored table.old)) number) }
-    ensures settled { IfErr result (λ fault. ¬ (fault ≡ NotSettled)) }
     ensures read { IsRead T.stored T.is_honest T.counted T.stays table.old table.new }
-    ensures room { IfErr result (OfTable NeedsNoPage) }
-    ensures fault { IfErr result (OfTable (T.fails table.old table.new)) }
+    ensures err { IfErr result (HasLineCause
+        (λ fault. T.is_honest table.old
+        → IsLocallySound (M.graph source.now) (M.is_wide source.now) (T.stored table.old)
+        → (view_of (T.stored table.old)).value number ≡ Some (winner, distance)
+        → IsLineCause (view_of (T.stored table.old)) number fault)
+        (λ fault. T.is_honest table.old → IsTable (T.stored table.old)
+        → (view_of (T.stored table.old)).value number ≡ Some (winner, distance)
+        → LineStops (M.graph source.now) (M.is_wide source.now) (view_of (T.stored table.old)) number fault)
+        (T.fails table.old table.new)) }
 {
     let mut numbers = Vec::new(alloc);
     numbers.push(number)?;

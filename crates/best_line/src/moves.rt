@@ -8,7 +8,7 @@ ghost use Rattle.legal_moves.specs.Compiled.{compiled_game, packing_kind, IsSoun
 ghost use Rattle.legal_moves.specs.Sources.{IsPositionBytes, IsWideAt};
 ghost use Rattle.best_line.specs.KnownCauses.{FaultOfTable};
 ghost use Rattle.best_line.specs.Moves.{AreKnownMoves};
-ghost use Rattle.best_line.specs.aid.Found.{AreToldMoves, IsToldMove, LeadsToPosition};
+ghost use Rattle.best_line.specs.lemmas.Found.{AreToldMoves, IsToldMove, LeadsToPosition};
 ghost use Rattle.best_line.specs.declared.known_fault.KnownMovesFault.TheVariants.{Inconsistent, TooWide};
 
 use crate::found::successor_of;

@@ -1,13 +1,11 @@
 //! The next position of a line.
-ghost use Rattle.std.specs.Prelude.{◌≡◌, ◌⊎◌, ◌<◌, ℕ, List, Contains, IfOk, OnOk, IfErr, IfSome, IfNone, Err, Some};
+ghost use Rattle.std.specs.Prelude.{◌≡◌, ◌<◌, ℕ, List, Contains, IfOk, IfErr, IfSome, IfNone, Some};
 ghost use Rattle.table.specs.Memory.{bytes_of_each};
 ghost use Rattle.retrograde.specs.View.{HasNumber, HasValue};
 ghost use Rattle.retrograde.specs.Stored.{IsTable, view_of};
 ghost use Rattle.best_line.specs.Lines.{IsBestStep, HasNoStep};
-ghost use Rattle.best_line.specs.aid.Lines.{IsFirstWon};
-ghost use Rattle.best_line.specs.Causes.{OfTable};
-ghost use Rattle.best_line.specs.declared.fault.LineFault.TheVariants.{NotSettled, Inconsistent, TooWide};
-ghost use Rattle.table.specs.Faults.{NeedsNoPage};
+ghost use Rattle.best_line.specs.lemmas.Lines.{IsFirstWon};
+ghost use Rattle.best_line.specs.Causes.{HasStepCause, IsOfReading};
 ghost use Rattle.table.specs.Frames.{IsRead};
 
 use crate::fault::LineFault;
@@ -31,8 +29,7 @@ fn number_if_won<T: Table>(
         (HasValue (view_of (T.stored table.old)) position.now.items winner distance → ⊥)) }
     ensures within { IfOk result (λ r. IfSome r (λ i. i < (T.counted table.old).known)) }
     ensures read { IsRead T.stored T.is_honest T.counted T.stays table.old table.new }
-    ensures room { IfErr result NeedsNoPage }
-    ensures fault { IfErr result (T.fails table.old table.new) }
+    ensures err { IfErr result (IsOfReading (T.fails table.old table.new)) }
 {
     let Some(number) = table.number_of(position)? else {
         return Ok(None);
@@ -58,8 +55,7 @@ fn first_won<T: Table>(
         ((y : List ℕ) → Contains (bytes_of_each positions.now) y → HasValue (view_of (T.stored table.old)) y winner distance → ⊥)) }
     ensures within { IfOk result (λ r. IfSome r (λ i. i < (T.counted table.old).known)) }
     ensures read { IsRead T.stored T.is_honest T.counted T.stays table.old table.new }
-    ensures room { IfErr result NeedsNoPage }
-    ensures fault { IfErr result (T.fails table.old table.new) }
+    ensures err { IfErr result (IsOfReading (T.fails table.old table.new)) }
 {
     for position in positions {
         let found = number_if_won(table, position, winner, distance)?;
@@ -84,15 +80,14 @@ pub fn next_on_line<M: MoveSource, T: Table>(
     requires known { number < (T.counted table.old).known }
     ensures step { T.is_honest table.old → IsTable (T.stored table.old)
         → IfOk result (IsBestStep (M.graph source.now) (view_of (T.stored table.old)) number winner distance) }
-    ensures none { T.is_honest table.old → IsTable (T.stored table.old) → result ≡ Err Inconsistent
-        → HasNoStep (M.graph source.now) (view_of (T.stored table.old)) number winner distance }
-    ensures wide { T.is_honest table.old → result ≡ Err TooWide
-        → (x : List ℕ) × HasNumber (view_of (T.stored table.old)) number x × M.is_wide source.now x }
-    ensures settled { IfErr result (λ fault. ¬ (fault ≡ NotSettled)) }
     ensures within { IfOk result (λ i. i < (T.counted table.old).known) }
     ensures read { IsRead T.stored T.is_honest T.counted T.stays table.old table.new }
-    ensures room { IfErr result (OfTable NeedsNoPage) }
-    ensures fault { IfErr result (OfTable (T.fails table.old table.new)) }
+    ensures err { IfErr result (HasStepCause
+        (T.is_honest table.old → IsTable (T.stored table.old)
+        → HasNoStep (M.graph source.now) (view_of (T.stored table.old)) number winner distance)
+        (T.is_honest table.old
+        → (x : List ℕ) × HasNumber (view_of (T.stored table.old)) number x × M.is_wide source.now x)
+        (T.fails table.old table.new)) }
 {
     let packed = table.packed(number)?;
     let found = source.successors(alloc, &packed)?;

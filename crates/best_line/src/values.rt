@@ -3,7 +3,7 @@ ghost use Rattle.std.specs.Prelude.{◌≡◌, ◌↔◌, ◌<◌, ℕ, List, tr
 ghost use Rattle.retrograde.specs.Stored.{Stored, HasRecord, IsTable, view_of};
 ghost use Rattle.retrograde.specs.Changes.{counts_of};
 ghost use Rattle.best_line.specs.Values.{IsValue};
-ghost use Rattle.best_line.specs.aid.Values.{IsUnsettled};
+ghost use Rattle.best_line.specs.lemmas.Values.{IsUnsettled};
 ghost use Rattle.table.specs.Faults.{NeedsNoPage};
 ghost use Rattle.table.specs.Frames.{IsRead};
 

@@ -1,5 +1,5 @@
 pub use Rattle.page_store.specs.Marks
-pub use Rattle.page_store.specs.Spelling
+pub use Rattle.page_store.specs.Spelled
 pub use Rattle.page_store.specs.Store
 pub use Rattle.sector_disk.specs.Disk
 pub mod Page
@@ -9,7 +9,7 @@ pub mod Entries
 pub mod Next
 pub mod Tree
 pub mod Answers
-pub mod Walking
-pub mod Reading
+pub mod Walks
+pub mod LeafRead
 pub mod Readers
-pub mod aid
+pub mod lemmas

@@ -5,7 +5,7 @@ use Rattle.page_store.specs.Store.{Store}
 use Rattle.btree.specs.declared.page.kind.Kind.TheVariants.{Leaf}
 use Rattle.btree.specs.declared.find.reader.Reader.{Reader}
 use Rattle.btree.specs.Page.{items_in, count_in, IsPage}
-use Rattle.btree.specs.Reading.{IsFoundBelow}
+use Rattle.btree.specs.LeafRead.{IsFoundBelow}
 
 -- it reads the same map
 pub record SameMap (old new : Reader) : Type 0 where
@@ -15,6 +15,11 @@ pub record SameMap (old new : Reader) : Type 0 where
 -- what it has in memory is found in its map in this store, as far as the disk is honest
 abbrev pub IsReading : Reader → Store → Type 0
 IsReading reader store = IsFoundBelow reader.widths store reader.root reader.leaf
+
+-- after a search it reads the same map, and what it has in memory is found there
+pub record ReadsOn (old new : Reader) (store : Store) : Type 0 where
+  pub map : SameMap old new
+  pub reading : IsReading new store
 
 -- it is at an entry
 pub record HasEntry (reader : Reader) : Type 0 where

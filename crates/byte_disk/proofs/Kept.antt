@@ -10,10 +10,11 @@ use Rattle.sector_disk.specs.declared.log.Event.TheVariants.{Wrote, Synced, Exte
 use Rattle.sector_disk.specs.Disk.{Picture, sector, GoesOn, Steps, Keeps, SyncedMore, AllSynced, Extends, IsLonger, AreZeros}
 use Rattle.sector_disk.specs.Past.{before, synced_by, synced_after, shown_now, memory_disk}
 use Rattle.sector_disk.specs.Past.{end_by, end_after, lasting_of, lasting_within}
-use Rattle.sector_disk.specs.aid.Moments.{one_moment}
-use Rattle.sector_disk.specs.aid.Unknown.{past}
+use Rattle.sector_disk.specs.lemmas.Moments.{one_moment}
+use Rattle.sector_disk.specs.lemmas.Unknown.{past}
 
-pub synced_after-push : (synced : ℕ → Bool) (events : List Event) (event : Event) → synced_after synced (events ++ event ∷ []) ≡ synced_by (synced_after synced events) event
+pub synced_after-push : (synced : ℕ → Bool) (events : List Event) (event : Event)
+    → synced_after synced (events ++ event ∷ []) ≡ synced_by (synced_after synced events) event
 synced_after-push synced [] event = refl
 synced_after-push synced (e ∷ events) event = synced_after-push (synced_by synced e) events event
 
@@ -76,9 +77,11 @@ changed events later picture at bytes was is = record {
 pub kept_extend : (events later : List Event) (old new : Picture) (sectors more : ℕ) → later ≡ events ++ Extended (length old) ∷ []
     → new ≡ old ++ replicate more (replicate 512 0) → sectors ≡ length old + more → Extends sectors (memory_disk events old) (memory_disk later new)
 kept_extend events later old new sectors more is_later is_new is_long =
-    let long : length new ≡ length old + more = ap (λ (p : Picture). length p) is_new ∙ length-append old (replicate more (replicate 512 0)) ∙ ap (λ (n : ℕ). length old + n) (length-replicate more (replicate 512 0)) in
+    let long : length new ≡ length old + more = ap (λ (p : Picture). length p) is_new ∙ length-append old (replicate more (replicate 512 0))
+    ∙ ap (λ (n : ℕ). length old + n) (length-replicate more (replicate 512 0)) in
     let back : before (Extended (length old)) new ≡ old =
-    ap (λ (p : Picture). take (length old) p) is_new ∙ take-append-le (length old) old (replicate more (replicate 512 0)) (omega arith) ∙ take_all (length old) old (omega arith) in
+    ap (λ (p : Picture). take (length old) p) is_new ∙ take-append-le (length old) old (replicate more (replicate 512 0)) (omega arith)
+    ∙ take_all (length old) old (omega arith) in
     let goes_on : GoesOn (memory_disk events old) (memory_disk (events ++ Extended (length old) ∷ []) new) = record {
       later = omega (arith, length-append events (Extended (length old) ∷ []));
       past = past events (Extended (length old)) old new back;
@@ -107,7 +110,8 @@ longer events later old new more is_later is_new = record {
 }
   where
     long : length new ≡ length old + more
-    long = ap (λ (p : Picture). length p) is_new ∙ length-append old (replicate more (replicate 512 0)) ∙ ap (λ (n : ℕ). length old + n) (length-replicate more (replicate 512 0))
+    long = ap (λ (p : Picture). length p) is_new ∙ length-append old (replicate more (replicate 512 0))
+        ∙ ap (λ (n : ℕ). length old + n) (length-replicate more (replicate 512 0))
 
     lasts : (end : Option ℕ) → lasting_of end old ≤ lasting_of (end_by end (Extended (length old))) new
     lasts None = omega (arith, long)
@@ -126,7 +130,8 @@ all_synced events later picture is = record {
   lasting = ap (λ (end : Option ℕ). lasting_of end picture) (ap (end_after None) is ∙ end_after-push None events Synced);
 }
 
-pub synced_more : (events later : List Event) (picture : Picture) → later ≡ events ++ Synced ∷ [] → SyncedMore (shown_now events picture) (shown_now later picture)
+pub synced_more : (events later : List Event) (picture : Picture) → later ≡ events ++ Synced ∷ []
+    → SyncedMore (shown_now events picture) (shown_now later picture)
 synced_more events later picture is = record {
   contents = refl;
   synced = λ k synced. (all_synced events later picture is).synced k;

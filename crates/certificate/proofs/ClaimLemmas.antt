@@ -9,7 +9,7 @@ use Rattle.position_pack.specs.Shape.{shape_of}
 use Rattle.legal_moves.specs.Sources.{graph_of}
 use Rattle.certificate.specs.declared.claim.Claimed.{Claimed}
 use Rattle.certificate.specs.declared.fault.CertificateFault.{CertificateFault}
-use Rattle.certificate.specs.aid.Reasons.{AreTheLists, IsNotShown}
+use Rattle.certificate.specs.lemmas.Reasons.{AreTheLists, IsNotShown}
 use Rattle.certificate.specs.Claims.{IsSo, IsCertified}
 use Rattle.certificate.specs.Refusals.{IsRefused}
 use Rattle.certificate.specs.Answers.{IsAnswer, certified, refused, refusal_line, shown_lines, status_of}

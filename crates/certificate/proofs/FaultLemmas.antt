@@ -6,17 +6,17 @@ use Rattle.position_pack.specs.Packings.{packed_by}
 use Rattle.position_pack.specs.Shape.{shape_of}
 use Rattle.position_pack.specs.declared.kind.PackingKind.TheVariants.{Bits}
 use Rattle.rbg_text.specs.Token.{Text}
-use Rattle.rbg_read.specs.Reading.{Fault}
+use Rattle.rbg_read.specs.Reads.{Fault}
 use Rattle.rbg_read.specs.declared.fault.GameFault.{GameFault}
 use Rattle.rbg_read.specs.declared.fault.GameFault.TheVariants as why
-use Rattle.certificate.specs.aid.Faults.{of_text}
+use Rattle.certificate.specs.lemmas.Faults.{of_text}
 use Rattle.certificate.specs.Format.{Beginning, Begins}
 use Rattle.certificate.specs.Refusals.{Claims, IsRefused}
 use Rattle.certificate.specs.Refusals.{IsRefused as refused}
-use Rattle.certificate.specs.aid.Reasons.{IsNoGame, IsNotShown}
-use Rattle.certificate.specs.aid.Reasons.{IsNotShown as lists}
+use Rattle.certificate.specs.lemmas.Reasons.{IsNoGame, IsNotShown}
+use Rattle.certificate.specs.lemmas.Reasons.{IsNotShown as lists}
 use Rattle.certificate.specs.declared.claim.Claimed.{Claimed}
-use Rattle.certificate.specs.aid.Reasons.{IsNoGame as cause}
+use Rattle.certificate.specs.lemmas.Reasons.{IsNoGame as cause}
 use Rattle.certificate.specs.declared.fault.CertificateFault.{CertificateFault}
 
 by_fault : (text : Text) (fault : GameFault) → (fault ≢ why.OutOfMemory → Fault text fault) → IsNoGame text (of_text fault)
@@ -46,4 +46,5 @@ module _ (certificate : Text) (given : Option Text) (b : Beginning) (begins : Be
   pub refused_for_lists : (game : Game) (at : Position) (claimed : Claimed) → Claims certificate b game at claimed → (fault : CertificateFault)
       → IsNotShown game b.goal claimed (packed_by Bits (shape_of game) at) b.behind fault → IsRefused certificate given fault
   refused_for_lists game at claimed claims fault (lists.unread same why) = refused.no_lists b game at claimed fault claims why
-  refused_for_lists game at claimed claims fault (lists.unshown first second same has why) = refused.not_shown b game at claimed first second fault claims has why
+  refused_for_lists game at claimed claims fault (lists.unshown first second same has why) =
+      refused.not_shown b game at claimed first second fault claims has why

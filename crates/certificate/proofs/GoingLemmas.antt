@@ -8,7 +8,7 @@ use Rattle.rbg_game.specs.declared.roles.Player.{Player}
 use Rattle.retrograde.specs.Graph.{Graph, Moves}
 use Rattle.legal_moves.specs.Listed.{ListsExactly}
 use Rattle.certificate.specs.Strategies.{GoesDown, IsHeld, RanksBelow}
-use Rattle.certificate.specs.aid.Found.{SomeOf, EachOf}
+use Rattle.certificate.specs.lemmas.Found.{SomeOf, EachOf}
 
 -- what is made of a list has each element from one of the list
 pub made_from : {X Y : Type 0} (f : X → Y) (xs : List X) (y : Y) → Contains (map f xs) y → (x : X) × Contains xs x × (f x ≡ y)

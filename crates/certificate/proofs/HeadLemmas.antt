@@ -7,7 +7,7 @@ use Rattle.rbg_text.specs.Token.{Text}
 use Rattle.rbg_game.specs.Goals.{CanBeGoal}
 use Rattle.certificate.specs.Claims.{goal_line, head_of}
 use Rattle.certificate.specs.Format.{Beginning, Begins, IsGoal, IsOneLine}
-use Rattle.certificate.specs.aid.Parts.{IsGoalOf, text_part}
+use Rattle.certificate.specs.lemmas.Parts.{IsGoalOf, text_part}
 use Rattle.certificate.proofs.LineLemmas.{cut_first, decimal_tells, digits_in_line, no_end, no_end_in_digits}
 
 abbrev pub version : List ℕ
@@ -27,8 +27,10 @@ abbrev pub from_goal : Beginning → List ℕ
 from_goal b = goal_line b.goal ++ from_text b
 
 nested : (goal text length_is position value behind : List ℕ)
-    → (codes "rbgsolve certificate 1" ++ 10 ∷ goal ++ codes "text " ++ length_is ++ 10 ∷ text ++ 10 ∷ codes "position " ++ position ++ 10 ∷ codes "value " ++ value ++ 10 ∷ []) ++ behind
-    ≡ version ++ (goal ++ (codes "text " ++ (length_is ++ (10 ∷ (text ++ (10 ∷ (codes "position " ++ (position ++ (10 ∷ (codes "value " ++ (value ++ (10 ∷ behind))))))))))))
+    → (codes "rbgsolve certificate 1" ++ 10 ∷ goal ++ codes "text " ++ length_is ++ 10 ∷ text ++ 10 ∷ codes "position " ++ position
+    ++ 10 ∷ codes "value " ++ value ++ 10 ∷ []) ++ behind
+    ≡ version ++ (goal ++ (codes "text " ++
+    (length_is ++ (10 ∷ (text ++ (10 ∷ (codes "position " ++ (position ++ (10 ∷ (codes "value " ++ (value ++ (10 ∷ behind))))))))))))
 nested goal text length_is position value behind = simp append_assoc
 
 pub opened : (b : Beginning) → head_of b.goal b.text b.position b.value ++ b.behind ≡ version ++ from_goal b
@@ -172,7 +174,8 @@ all_read bytes rest goal next text after position more value behind first read i
 -- ---- parts that are not there
 
 -- the line of a length and what is behind it
-pub text_parts : (bytes digits rest : List ℕ) → IsOneLine digits → bytes ≡ codes "text " ++ (digits ++ (10 ∷ rest)) → (text more : List ℕ) → length text < 2 ^ 32
+pub text_parts : (bytes digits rest : List ℕ) → IsOneLine digits → bytes ≡ codes "text " ++ (digits ++ (10 ∷ rest)) → (text more : List ℕ)
+    → length text < 2 ^ 32
     → bytes ≡ text_part text more → (digits ≡ decimal (length text)) × (rest ≡ text ++ (10 ∷ more))
 text_parts bytes digits rest one is text more few same =
     one_line (codes "text ") digits (decimal (length text)) rest (text ++ (10 ∷ more)) one (digits_in_line (length text) few) (sym is ∙ same)

@@ -11,4 +11,4 @@ pub mod PlayLemmas
 pub mod ClaimLemmas
 pub mod FaultLemmas
 pub mod RightLemmas
-pub mod Looking
+pub mod ListLoops

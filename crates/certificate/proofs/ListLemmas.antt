@@ -12,7 +12,7 @@ use Rattle.base64.specs.Engines.{standard_no_pad}
 use Rattle.base64.specs.GeneralPurpose.{IsBytes, decode_of}
 use Rattle.base64.proofs.EngineFacts.{decode_of-encode_of, encode_of-nil}
 use Rattle.certificate.specs.Format.{Ascends, IsLine, Line, letters, line_text}
-use Rattle.certificate.specs.aid.Parts.{EndsList}
+use Rattle.certificate.specs.lemmas.Parts.{EndsList}
 use Rattle.certificate.specs.declared.manner.Manner.{Manner}
 use Rattle.certificate.specs.declared.manner.Manner.TheVariants.{AtMost, AtLeast, Never}
 use Rattle.certificate.proofs.LineLemmas.{cut_last, decimal_tells, no_blank_in_digits}
@@ -36,7 +36,8 @@ same_line x y at rank = λ i. record { at = at i; rank = rank i }
 ranked_tells : (x y : Line) → IsBytes x.at → IsBytes y.at → x.rank < 2 ^ 32 → y.rank < 2 ^ 32
     → letters x.at ++ (32 ∷ decimal x.rank) ≡ letters y.at ++ (32 ∷ decimal y.rank) → x ≡ y
 ranked_tells x y hx hy rx ry same =
-    let parts = cut_last 32 (letters x.at) (letters y.at) (decimal x.rank) (decimal y.rank) (no_blank_in_digits x.rank rx) (no_blank_in_digits y.rank ry) same in
+    let parts = cut_last 32 (letters x.at) (letters y.at) (decimal x.rank) (decimal y.rank) (no_blank_in_digits x.rank rx)
+    (no_blank_in_digits y.rank ry) same in
     same_line x y (letters_tell x.at y.at hx hy parts.0) (decimal_tells x.rank y.rank rx ry parts.1)
 
 -- the text of a line tells it
@@ -124,7 +125,8 @@ more_ascends list next ascends last = λ i j d lt within.
           let at_end : length list ≡ j = omega arith in
           let before_next : ComesBefore (get_or list i d) next =
           elim (cases_lt i (length list - 1)) [
-            | inl earlier ↦ less_than (get_or list i d).at (get_or list (length list - 1) d).at next.at (ascends i (length list - 1) d earlier (omega arith)) (last d (omega arith))
+            | inl earlier ↦ less_than (get_or list i d).at (get_or list (length list - 1) d).at next.at
+                (ascends i (length list - 1) d earlier (omega arith)) (last d (omega arith))
             | inr final ↦ (let same : length list - 1 ≡ i = omega arith in subst (λ (k : ℕ). ComesBefore (get_or list k d) next) same (last d (omega arith)))
           ] in
           subst (λ (y : Line). ComesBefore (get_or (list ++ next ∷ []) i d) y) (sym (get_or_push list next d j at_end))
@@ -132,9 +134,11 @@ more_ascends list next ascends last = λ i j d lt within.
     ]
 
 -- in an ascending list the last line but one comes before the last
-pub last_ascends : (list : List Line) (next : Line) → Ascends (list ++ next ∷ []) → (d : Line) → 0 < length list → ComesBefore (get_or list (length list - 1) d) next
+pub last_ascends : (list : List Line) (next : Line) → Ascends (list ++ next ∷ []) → (d : Line) → 0 < length list
+    → ComesBefore (get_or list (length list - 1) d) next
 last_ascends list next ascends d some =
     let long = length_push list next in
-    let both : ComesBefore (get_or (list ++ next ∷ []) (length list - 1) d) (get_or (list ++ next ∷ []) (length list) d) = ascends (length list - 1) (length list) d (omega arith) (omega arith) in
+    let both : ComesBefore (get_or (list ++ next ∷ []) (length list - 1) d) (get_or (list ++ next ∷ []) (length list) d) = ascends
+    (length list - 1) (length list) d (omega arith) (omega arith) in
     let right = subst (λ (y : Line). ComesBefore (get_or (list ++ next ∷ []) (length list - 1) d) y) (get_or_push list next d (length list) refl) both in
     subst (λ (x : Line). ComesBefore x next) (get_or_append_left list (next ∷ []) d (length list - 1) (omega arith)) right

@@ -14,9 +14,9 @@ use Rattle.retrograde.specs.Graph.{Moves, IsEnded}
 use Rattle.retrograde.specs.Values.{EndsAhead, WinsWithin, WonIn}
 use Rattle.legal_moves.specs.Moves.{IsSuccessor, score}
 use Rattle.legal_moves.specs.Sources.{IsAt, graph_of}
-use Rattle.legal_moves.proofs.FieldLemmas.{role_is, leader_is, leads}
-use Rattle.legal_moves.proofs.ReachLemmas.{position_of}
-use Rattle.legal_moves.proofs.SourceLemmas.{one_position}
+use Rattle.legal_moves.proofs.answers.FieldLemmas.{role_is, leader_is, leads}
+use Rattle.legal_moves.proofs.answers.ReachLemmas.{position_of}
+use Rattle.legal_moves.proofs.answers.SourceLemmas.{one_position}
 use Rattle.certificate.specs.Play.{play_of}
 use Rattle.certificate.specs.Claims.{IsSo}
 use Rattle.certificate.specs.declared.claim.Claimed.{Claimed}

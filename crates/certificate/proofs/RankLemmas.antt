@@ -50,9 +50,11 @@ module _ (list : List Ranked) (ascends : Ascends (lines_in list)) where
   one_place : (i j : ℕ) (d : Ranked) → i < length list → j < length list → (get_or list i d).at.items ≡ (get_or list j d).at.items → i ≡ j
   one_place i j d hi hj same =
       let not_below : i < j → ⊥ = λ lt.
-      not_before_itself (get_or list j d).at.items (subst (λ (x : List ℕ). slice_cmp nat_cmp x (get_or list j d).at.items ≡ Less) same (before_later i j d lt hj)) in
+      not_before_itself (get_or list j d).at.items
+      (subst (λ (x : List ℕ). slice_cmp nat_cmp x (get_or list j d).at.items ≡ Less) same (before_later i j d lt hj)) in
       let not_above : j < i → ⊥ = λ gt.
-      not_before_itself (get_or list j d).at.items (subst (λ (x : List ℕ). slice_cmp nat_cmp (get_or list j d).at.items x ≡ Less) same (before_later j i d gt hi)) in
+      not_before_itself (get_or list j d).at.items
+      (subst (λ (x : List ℕ). slice_cmp nat_cmp (get_or list j d).at.items x ≡ Less) same (before_later j i d gt hi)) in
       omega arith
 
   module _ (at : List ℕ) where
@@ -100,7 +102,8 @@ module _ (list : List Ranked) (ascends : Ascends (lines_in list)) where
           other s (omega arith) (sym at_k ∙ ap (λ (j : ℕ). get_or list j s) same) s_at in
           let late : place < k = omega arith in
           let earlier : slice_cmp nat_cmp (get_or list place s).at.items at ≡ Less =
-          subst (λ (x : List ℕ). slice_cmp nat_cmp (get_or list place s).at.items x ≡ Less) (ap (λ (q : Ranked). q.at.items) at_k ∙ s_at) (before_later place k s late within) in
+          subst (λ (x : List ℕ). slice_cmp nat_cmp (get_or list place s).at.items x ≡ Less) (ap (λ (q : Ranked). q.at.items) at_k ∙ s_at)
+          (before_later place k s late within) in
           let yes : comes_before (get_or list place s) ≡ true = less_is (slice_cmp nat_cmp (get_or list place s).at.items at) earlier in
           let no : comes_before (get_or list place s) ≡ false = cut.1 place s (omega arith) (omega arith) in
           absurd (cc),

@@ -14,10 +14,10 @@ use Rattle.position_pack.proofs.PackingLemmas.{as_many}
 use Rattle.position_pack.proofs.PartFields.{few_bits}
 use Rattle.certificate.specs.Format.{Ascends, IsLine, Line, letters, line_text}
 use Rattle.certificate.specs.Lists.{line_of, lines_in}
-use Rattle.certificate.specs.aid.Parts.{AllFit, AreLinesRefused, AreParts, AreReadLines, IsLettersRefused, IsLineRefused, IsReadLine}
-use Rattle.certificate.specs.aid.Parts.{AreLinesRefused as are_lines}
-use Rattle.certificate.specs.aid.Parts.{IsLettersRefused as are_letters}
-use Rattle.certificate.specs.aid.Parts.{IsLineRefused as is_line}
+use Rattle.certificate.specs.lemmas.Parts.{AllFit, AreLinesRefused, AreParts, AreReadLines, IsLettersRefused, IsLineRefused, IsReadLine}
+use Rattle.certificate.specs.lemmas.Parts.{AreLinesRefused as are_lines}
+use Rattle.certificate.specs.lemmas.Parts.{IsLettersRefused as are_letters}
+use Rattle.certificate.specs.lemmas.Parts.{IsLineRefused as is_line}
 use Rattle.certificate.specs.declared.fault.CertificateFault.{CertificateFault}
 use Rattle.certificate.specs.declared.fault.CertificateFault.TheVariants.{Malformed, NoPosition}
 use Rattle.certificate.specs.declared.manner.Manner.{Manner}
@@ -28,7 +28,8 @@ use Rattle.certificate.proofs.ListLemmas.{front_ascends, goes_on, line_tells}
 
 -- ---- one line
 
-parts_are : (manner : Manner) (text : List ℕ) (line : Line) → IsLine manner line → text ≡ line_text manner line → AreParts manner text (letters line.at) line.rank
+parts_are : (manner : Manner) (text : List ℕ) (line : Line) → IsLine manner line → text ≡ line_text manner line
+    → AreParts manner text (letters line.at) line.rank
 parts_are AtMost text line is same = (is.rank, same)
 parts_are AtLeast text line is same = (is.rank, same)
 parts_are Never text line is same = (is.rank, same)
@@ -37,9 +38,11 @@ parts_are Never text line is same = (is.rank, same)
 letters_are : (manner : Manner) (text written : List ℕ) (rank : ℕ) (line : Line) → AreParts manner text written rank → IsLine manner line
     → text ≡ line_text manner line → written ≡ letters line.at
 letters_are AtMost text written rank line parts is same =
-    (cut_last 32 written (letters line.at) (decimal rank) (decimal line.rank) (no_blank_in_digits rank parts.0) (no_blank_in_digits line.rank is.rank) (sym parts.1 ∙ same)).0
+    (cut_last 32 written (letters line.at) (decimal rank) (decimal line.rank) (no_blank_in_digits rank parts.0)
+    (no_blank_in_digits line.rank is.rank) (sym parts.1 ∙ same)).0
 letters_are AtLeast text written rank line parts is same =
-    (cut_last 32 written (letters line.at) (decimal rank) (decimal line.rank) (no_blank_in_digits rank parts.0) (no_blank_in_digits line.rank is.rank) (sym parts.1 ∙ same)).0
+    (cut_last 32 written (letters line.at) (decimal rank) (decimal line.rank) (no_blank_in_digits rank parts.0)
+    (no_blank_in_digits line.rank is.rank) (sym parts.1 ∙ same)).0
 letters_are Never text written rank line parts is same = sym parts.1 ∙ same
 
 made_text : (manner : Manner) (text written bytes : List ℕ) (rank : ℕ) → AreParts manner text written rank → written ≡ letters bytes
@@ -106,7 +109,8 @@ none_read manner texts list none = subst (λ (all : List Ranked). AreReadLines m
   fit = All-nil (λ (r : Ranked). length r.at.items ≤ MAX_PACKED);
 })
 
-module _ (manner : Manner) (texts : List (List ℕ)) (list : List Ranked) (text : List ℕ) (rest : List (List ℕ)) (read : AreReadLines manner texts list (text ∷ rest)) where
+module _ (manner : Manner) (texts : List (List ℕ)) (list : List Ranked) (text : List ℕ) (rest : List (List ℕ))
+    (read : AreReadLines manner texts list (text ∷ rest)) where
   -- one more is read
   pub one_read : (ranked : Ranked) (all : List Ranked) → all ≡ list ++ ranked ∷ [] → IsReadLine manner text ranked
       → Ascends (lines_in list ++ line_of ranked ∷ []) → AreReadLines manner texts all rest
@@ -119,7 +123,8 @@ module _ (manner : Manner) (texts : List (List ℕ)) (list : List Ranked) (text 
         };
         texts_are = read.texts_are ∙ ap (λ (t : List ℕ). map (line_text manner) (lines_in list) ++ t ∷ rest) line.text_is
             ∙ sym (append_assoc (map (line_text manner) (lines_in list)) (line_text manner (line_of ranked) ∷ []) rest)
-            ∙ ap (λ (ts : List (List ℕ)). ts ++ rest) (sym (map_push (line_text manner) (lines_in list) (line_of ranked)) ∙ ap (map (line_text manner)) (sym pushed));
+            ∙ ap (λ (ts : List (List ℕ)). ts ++ rest)
+            (sym (map_push (line_text manner) (lines_in list) (line_of ranked)) ∙ ap (map (line_text manner)) (sym pushed));
         fit = subst AllFit (sym all_are) (All-push (λ (r : Ranked). length r.at.items ≤ MAX_PACKED) list ranked read.fit line.fits);
       }
 

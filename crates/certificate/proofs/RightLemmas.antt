@@ -18,8 +18,8 @@ use Rattle.position_pack.specs.Spelled.{IsSpelled}
 use Rattle.position_pack.specs.Texts.{role_text}
 use Rattle.position_pack.specs.declared.kind.PackingKind.TheVariants.{Bits}
 use Rattle.position_pack.proofs.TellLemmas.{Lacks, role_lacks, told}
-use Rattle.rbg_read.specs.Reading.{Fault, Reads}
-use Rattle.rbg_read.proofs.OneReading.{no_fault, one_game}
+use Rattle.rbg_read.specs.Reads.{Fault, Reads}
+use Rattle.rbg_read.proofs.OneGame.{no_fault, one_game}
 use Rattle.rbg_read.proofs.ProperNames.{proper}
 use Rattle.rbg_read.proofs.SoundGames.{read_sound}
 use Rattle.retrograde.specs.Graph.{Graph}
@@ -37,7 +37,7 @@ use Rattle.certificate.specs.Right.{AreShown, ShowsItsClaim}
 use Rattle.certificate.specs.Shown.{AreNarrow, Follows, IsList, IsSearched, IsUnshown, Shows, claimed_moves}
 use Rattle.certificate.specs.Shown.{IsUnfollowed as unfollowed}
 use Rattle.certificate.specs.Shown.{IsUnshown as unshown}
-use Rattle.certificate.specs.aid.Parts.{EndsList}
+use Rattle.certificate.specs.lemmas.Parts.{EndsList}
 use Rattle.certificate.specs.declared.claim.Claimed.{Claimed}
 use Rattle.certificate.specs.declared.claim.Claimed.TheVariants.{Won, Drawn}
 use Rattle.certificate.specs.declared.fault.CertificateFault.{CertificateFault}
@@ -92,13 +92,15 @@ module _ (game : Game) (claimed : Claimed) (behind : List ℕ) (first second : L
   -- there is one pair of lists
   one_pair : (one two : List Line) → HasLists game claimed behind one two → (one ≡ first) × (two ≡ second)
   one_pair one two other =
-      let fronts = one_list (first_manner claimed) one first (second_lines game claimed two) (second_lines game claimed second) other.first_is.each has.first_is.each
+      let fronts = one_list (first_manner claimed) one first (second_lines game claimed two)
+      (second_lines game claimed second) other.first_is.each has.first_is.each
       refl refl (ap (drop 2) (sym other.lines_are ∙ has.lines_are)) in
       let backs = one_list (second_manner claimed) two second [] [] other.second_is.each has.second_is.each tt tt
       (append-nil (map (line_text (second_manner claimed)) two) ∙ ap (drop 2) fronts.1 ∙ sym (append-nil (map (line_text (second_manner claimed)) second))) in
       (fronts.0, backs.0)
 
-  there : (manner : Manner) (list before : List Line) (line : Line) (more rest : List (List ℕ)) → All (IsLine manner) list → All (IsLine manner) before → IsLine manner line
+  there : (manner : Manner) (list before : List Line) (line : Line) (more rest : List (List ℕ)) → All (IsLine manner) list
+      → All (IsLine manner) before → IsLine manner line
       → EndsList rest → map (line_text manner) before ++ line_text manner line ∷ more ≡ map (line_text manner) list ++ rest → Contains list line
   there manner list before line more rest hl hb is ends same =
       let found = goes_on manner list before (line_text manner line) more rest hl hb is.filled ends same in
@@ -114,9 +116,11 @@ module _ (game : Game) (claimed : Claimed) (behind : List ℕ) (first second : L
       (there (first_manner claimed) first before line more (second_lines game claimed second) has.first_is.each each is refl
       (ap (drop 2) (sym texts ∙ has.lines_are)))
   is_position line (comes.in_second one before same more each_first each is texts) firsts seconds =
-      let fronts = one_list (first_manner claimed) one first (second_lines game claimed before ++ line_text (second_manner claimed) line ∷ more) (second_lines game claimed second)
+      let fronts = one_list (first_manner claimed) one first
+      (second_lines game claimed before ++ line_text (second_manner claimed) line ∷ more) (second_lines game claimed second)
       each_first has.first_is.each refl refl
-      (ap (drop 2) (sym (append_assoc (first_lines game claimed one) (second_lines game claimed before) (line_text (second_manner claimed) line ∷ more)) ∙ sym texts ∙ has.lines_are)) in
+      (ap (drop 2) (sym (append_assoc (first_lines game claimed one) (second_lines game claimed before)
+      (line_text (second_manner claimed) line ∷ more)) ∙ sym texts ∙ has.lines_are)) in
       All-contains (λ (l : Line). IsPositionBytes Bits game l.at) second line seconds
       (there (second_manner claimed) second before line more [] has.second_is.each each is tt
       (ap (drop 2) fronts.1 ∙ sym (append-nil (map (line_text (second_manner claimed)) second))))
@@ -179,7 +183,8 @@ module _ (certificate : List ℕ) (given : Option Text) (s : ShowsItsClaim certi
   x : List ℕ
   x = packed_by Bits (shape_of s.game) s.at
 
-  not_unshown : (fault : CertificateFault) → IsUnshown (graph_of Bits s.b.goal s.game) (IsWideAt Bits s.game) s.claimed x s.first s.second fault → IsAllowed fault
+  not_unshown : (fault : CertificateFault) → IsUnshown (graph_of Bits s.b.goal s.game)
+      (IsWideAt Bits s.game) s.claimed x s.first s.second fault → IsAllowed fault
   unfolding x
   not_unshown fault (unshown.unfollowed manner w list same is_list (unfollowed.not_followed line here bad)) =
       absurd (bad (follows (graph_of Bits s.b.goal s.game) x s.claimed s.first s.second s.has.first_is s.has.second_is s.shown manner w list is_list line here))
@@ -197,7 +202,8 @@ module _ (certificate : List ℕ) (given : Option Text) (s : ShowsItsClaim certi
       let here = subst (λ (g : Game). IsSpelled g at s.b.position) game_is (subst (λ (c : Beginning). IsSpelled game at c.position) b_is spelled) in
       told s.game sound names at s.at here.position s.claims.spelled.position (sym here.text_is ∙ s.claims.spelled.text_is)
 
-  same_value : (b : Beginning) (game : Game) (claimed : Claimed) → b ≡ s.b → game ≡ s.game → IsCounted claimed → b.value ≡ value_text game claimed → claimed ≡ s.claimed
+  same_value : (b : Beginning) (game : Game) (claimed : Claimed) → b ≡ s.b → game ≡ s.game → IsCounted claimed
+      → b.value ≡ value_text game claimed → claimed ≡ s.claimed
   same_value b game claimed b_is game_is counted named =
       one_claim s.game sound names claimed s.claimed counted s.claims.counted
       (ap (λ (g : Game). value_text g claimed) (sym game_is) ∙ sym named ∙ ap (λ (c : Beginning). c.value) b_is ∙ s.claims.named)
@@ -231,8 +237,10 @@ module _ (certificate : List ℕ) (given : Option Text) (s : ShowsItsClaim certi
         let lists = one_pair s.game s.claimed s.b.behind s.first s.second s.has first second (so_of_it (λ c g p d. HasLists g d c.behind first second) has) in
         let here = so_of_it
         (λ c g p d. IsUnshown (graph_of Bits c.goal g) (IsWideAt Bits g) d (packed_by Bits (shape_of g) p) first second fault) why in
-        let one = subst (λ (l : List Line). IsUnshown (graph_of Bits s.b.goal s.game) (IsWideAt Bits s.game) s.claimed (packed_by Bits (shape_of s.game) s.at) l second fault) lists.0 here in
-        not_unshown fault (subst (λ (l : List Line). IsUnshown (graph_of Bits s.b.goal s.game) (IsWideAt Bits s.game) s.claimed (packed_by Bits (shape_of s.game) s.at) s.first l fault) lists.1 one)
+        let one = subst (λ (l : List Line). IsUnshown (graph_of Bits s.b.goal s.game) (IsWideAt Bits s.game) s.claimed
+        (packed_by Bits (shape_of s.game) s.at) l second fault) lists.0 here in
+        not_unshown fault (subst (λ (l : List Line). IsUnshown (graph_of Bits s.b.goal s.game) (IsWideAt Bits s.game) s.claimed
+        (packed_by Bits (shape_of s.game) s.at) s.first l fault) lists.1 one)
 
   -- each other cause is against it
   is_allowed : (fault : CertificateFault) → IsRefused certificate given fault → IsAllowed fault

@@ -11,7 +11,7 @@ use Rattle.certificate.specs.Lists.{Has}
 use Rattle.certificate.specs.Shown.{Follows, IsSearched, IsUnfollowed}
 use Rattle.certificate.specs.Shown.{IsUnfollowed as unfollowed}
 use Rattle.certificate.specs.Strategies.{IsStrategy, IsDelay, IsSafe, RanksFrom}
-use Rattle.certificate.specs.aid.Faults.{of_search}
+use Rattle.certificate.specs.lemmas.Faults.{of_search}
 use Rattle.certificate.specs.declared.manner.Manner.{Manner}
 use Rattle.certificate.specs.declared.manner.Manner.TheVariants.{AtMost, AtLeast, Never}
 use Rattle.certificate.specs.declared.manner.TheConstants.{NEVER}
@@ -31,6 +31,7 @@ module _ (graph : Graph (List ℕ)) (w : Player) (list : List Line) where
 
 -- a fault of a search at one of the lines
 pub unsearched : (graph : Graph (List ℕ)) (Wide : List ℕ → Type 0) (manner : Manner) (w : Player) (list : List Line) (fault : MoveFault)
-    → (fault ≡ search_fault.TooWide → (line : Line) × Contains list line × (IsSearched manner line × Wide line.at)) → IsUnfollowed graph Wide manner w list (of_search fault)
+    → (fault ≡ search_fault.TooWide → (line : Line) × Contains list line × (IsSearched manner line × Wide line.at))
+    → IsUnfollowed graph Wide manner w list (of_search fault)
 unsearched graph Wide manner w list search_fault.TooWide wide = let (line, there, is) = wide refl in unfollowed.too_wide line there is.0 is.1
 unsearched graph Wide manner w list search_fault.OutOfMemory wide = unfollowed.no_memory

@@ -8,16 +8,16 @@ use Rattle.position_pack.specs.Packings.{Form, IsPacked, form_of}
 use Rattle.position_pack.specs.Texts.{role_text}
 use Rattle.position_pack.specs.declared.kind.PackingKind.TheVariants.{Bits}
 use Rattle.legal_moves.specs.Sources.{IsPositionBytes}
-use Rattle.legal_moves.proofs.SourceLemmas.{at_by_packed, packed_by_at}
+use Rattle.legal_moves.proofs.answers.SourceLemmas.{at_by_packed, packed_by_at}
 use Rattle.certificate.specs.Format.{HasLists, Line, first_lines, first_manner, first_player, line_text, lines, second_lines, second_manner, second_player, words_of}
 use Rattle.certificate.specs.Lists.{line_of, lines_in}
 use Rattle.certificate.specs.Refusals.{AreUnread}
 use Rattle.certificate.specs.Refusals.{AreUnread as unread}
 use Rattle.certificate.specs.Refusals.{ComesTo as comes}
-use Rattle.certificate.specs.aid.Parts.{AreOfPositions, IsListRefused, IsReadList}
-use Rattle.certificate.specs.aid.Parts.{AreLinesRefused as are_lines}
-use Rattle.certificate.specs.aid.Parts.{IsListRefused as is_list}
-use Rattle.certificate.specs.aid.Reasons.{AreAllAt, AreReadLists}
+use Rattle.certificate.specs.lemmas.Parts.{AreOfPositions, IsListRefused, IsReadList}
+use Rattle.certificate.specs.lemmas.Parts.{AreLinesRefused as are_lines}
+use Rattle.certificate.specs.lemmas.Parts.{IsListRefused as is_list}
+use Rattle.certificate.specs.lemmas.Reasons.{AreAllAt, AreReadLists}
 use Rattle.certificate.specs.declared.claim.Claimed.{Claimed}
 use Rattle.certificate.specs.declared.fault.CertificateFault.{CertificateFault}
 use Rattle.certificate.specs.declared.fault.CertificateFault.TheVariants.{Malformed}
@@ -26,12 +26,14 @@ use Rattle.certificate.specs.declared.ranked.Ranked.{Ranked}
 use Rattle.certificate.proofs.ListLemmas.{one_list}
 
 -- a list by the manner and the name that it has to have
-pub refused_as : (form : Form) (manner other : Manner) (name called : List ℕ) (texts : List (List ℕ)) (fault : CertificateFault) → manner ≡ other → name ≡ called
+pub refused_as : (form : Form) (manner other : Manner) (name called : List ℕ) (texts : List (List ℕ)) (fault : CertificateFault)
+    → manner ≡ other → name ≡ called
     → IsListRefused form manner name texts fault → IsListRefused form other called texts fault
 refused_as form manner other name called texts fault manner_is name_is refused =
     subst (λ (n : List ℕ). IsListRefused form other n texts fault) name_is (subst (λ (m : Manner). IsListRefused form m name texts fault) manner_is refused)
 
-pub read_as : (manner other : Manner) (name called : List ℕ) (texts : List (List ℕ)) (list : List Ranked) (rest : List (List ℕ)) → manner ≡ other → name ≡ called
+pub read_as : (manner other : Manner) (name called : List ℕ) (texts : List (List ℕ)) (list : List Ranked) (rest : List (List ℕ))
+    → manner ≡ other → name ≡ called
     → IsReadList manner name texts list rest → IsReadList other called texts list rest
 read_as manner other name called texts list rest manner_is name_is read =
     subst (λ (n : List ℕ). IsReadList other n texts list rest) name_is (subst (λ (m : Manner). IsReadList m name texts list rest) manner_is read)
@@ -52,13 +54,15 @@ module _ (game : Game) (claimed : Claimed) (behind : List ℕ) (form : Form) (fo
       (λ k d lt. let (at, packed) = are k d lt in (at, at_by_packed Bits game form (get_or list k d).at.items at form_is packed))
 
   -- the first list is none, or has a line of no position
-  pub first_refused : (fault : CertificateFault) → IsListRefused form (first_manner claimed) first_name (lines behind) fault → AreUnread game claimed behind fault
+  pub first_refused : (fault : CertificateFault) → IsListRefused form (first_manner claimed) first_name (lines behind) fault
+      → AreUnread game claimed behind fault
   first_refused fault (is_list.no_heading none) = unread.no_lists (λ first second has. none _ has.lines_are)
   first_refused fault (is_list.no_lines rest given same (are_lines.no_lines none)) = unread.no_lists (λ first second has.
       none first (second_lines game claimed second) has.first_is refl (ap (drop 2) (sym same ∙ has.lines_are)))
   first_refused fault (is_list.no_lines rest given same (are_lines.no_position before line more each is texts none)) =
       unread.no_position line
-      (comes.in_first before line more each is (same ∙ ap (λ (ts : List (List ℕ)). [] ∷ (words_of (first_manner claimed) ++ first_name) ∷ ts) texts)) (no_bytes line.at none)
+      (comes.in_first before line more each is
+      (same ∙ ap (λ (ts : List (List ℕ)). [] ∷ (words_of (first_manner claimed) ++ first_name) ∷ ts) texts)) (no_bytes line.at none)
   first_refused fault (is_list.no_lines rest given same are_lines.no_memory) = unread.no_memory
 
   module _ (list : List Ranked) (rest : List (List ℕ)) (read : IsReadList (first_manner claimed) first_name (lines behind) list rest) where
@@ -73,7 +77,8 @@ module _ (game : Game) (claimed : Claimed) (behind : List ℕ) (form : Form) (fo
     pub second_refused : (fault : CertificateFault) → IsListRefused form (second_manner claimed) second_name rest fault → AreUnread game claimed behind fault
     second_refused fault (is_list.no_heading none) = unread.no_lists (λ first second has. none _ (second_is first second has).1)
     second_refused fault (is_list.no_lines more given same (are_lines.no_lines none)) = unread.no_lists (λ first second has.
-        none second [] has.second_is tt (ap (drop 2) (sym same ∙ (second_is first second has).1) ∙ sym (append-nil (map (line_text (second_manner claimed)) second))))
+        none second [] has.second_is tt
+        (ap (drop 2) (sym same ∙ (second_is first second has).1) ∙ sym (append-nil (map (line_text (second_manner claimed)) second))))
     second_refused fault (is_list.no_lines more given same (are_lines.no_position before line after each is texts none)) =
         unread.no_position line
         (comes.in_second (lines_in list) before line after read.are.each each is
@@ -95,7 +100,8 @@ module _ (game : Game) (claimed : Claimed) (behind : List ℕ) (form : Form) (fo
       both_read none first_at second_at = record {
         has = record {
           lines_are = read.texts_are ∙ ap (λ (ts : List (List ℕ)). first_lines game claimed (lines_in list) ++ ts)
-              (others.texts_are ∙ ap (λ (ts : List (List ℕ)). second_lines game claimed (lines_in other) ++ ts) none ∙ append-nil (second_lines game claimed (lines_in other)));
+              (others.texts_are ∙ ap (λ (ts : List (List ℕ)). second_lines game claimed (lines_in other) ++ ts) none
+              ∙ append-nil (second_lines game claimed (lines_in other)));
           first_is = read.are;
           second_is = others.are;
         };

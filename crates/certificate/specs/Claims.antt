@@ -7,7 +7,7 @@ use Rattle.rbg_game.specs.declared.roles.Role.TheVariants.{Player}
 use Rattle.rbg_game.specs.declared.position.Position.{Position}
 use Rattle.position_pack.specs.Texts.{role_text}
 use Rattle.position_pack.specs.Spelled.{IsSpelled}
-use Rattle.rbg_read.specs.Reading.{Reads}
+use Rattle.rbg_read.specs.Reads.{Reads}
 use Rattle.retrograde.specs.Graph.{Graph}
 use Rattle.retrograde.specs.Values.{WonIn, Drawn as IsDrawn}
 use Rattle.certificate.specs.Play.{play_of}

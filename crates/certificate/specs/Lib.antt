@@ -8,4 +8,4 @@ pub mod Codes
 pub mod Refusals
 pub mod Answers
 pub mod Right
-pub mod aid
+pub mod lemmas

@@ -14,6 +14,6 @@ line_of r = record { at = r.at.items; rank = r.rank }
 abbrev pub lines_in : List Ranked → List Line
 lines_in = map line_of
 
--- the same of a list that was read
+-- a list that was read has this line, by its number
 abbrev pub Stands : List Ranked → List ℕ → ℕ → Type 0
 Stands list = Has (lines_in list)

@@ -7,7 +7,7 @@ use Rattle.position_pack.specs.Packings.{packed_by}
 use Rattle.position_pack.specs.Shape.{shape_of}
 use Rattle.position_pack.specs.Spelled.{IsSpelled}
 use Rattle.position_pack.specs.declared.kind.PackingKind.TheVariants.{Bits}
-use Rattle.rbg_read.specs.Reading.{Reads, Fault}
+use Rattle.rbg_read.specs.Reads.{Reads, Fault}
 use Rattle.rbg_read.specs.declared.fault.GameFault.{GameFault}
 use Rattle.legal_moves.specs.Sources.{IsPositionBytes, IsWideAt, graph_of}
 use Rattle.certificate.specs.Claims.{IsTheGiven, value_text}

@@ -8,12 +8,12 @@ ghost use Rattle.position_pack.specs.Packings.{packed_by};
 ghost use Rattle.position_pack.specs.Shape.{shape_of};
 ghost use Rattle.position_pack.specs.Spelled.{IsSpelled};
 ghost use Rattle.position_pack.specs.declared.kind.PackingKind.TheVariants.{Bits};
-ghost use Rattle.rbg_read.specs.Reading.{Reads};
+ghost use Rattle.rbg_read.specs.Reads.{Reads};
 ghost use Rattle.legal_moves.specs.Sources.{graph_of};
 ghost use Rattle.certificate.specs.Claims.{IsCertified, IsSo, IsTheGiven, value_text};
 ghost use Rattle.certificate.specs.Refusals.{IsCounted, IsRefused, IsUnclaimed};
 ghost use Rattle.certificate.specs.Right.{ShowsThis};
-ghost use Rattle.certificate.specs.aid.Reasons.{AreTheLists, IsNoGame, IsNotShown};
+ghost use Rattle.certificate.specs.lemmas.Reasons.{AreTheLists, IsNoGame, IsNotShown};
 
 use crate::claim::{Claimed, claimed_in};
 use crate::fault::{CertificateFault, Refusal};

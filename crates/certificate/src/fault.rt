@@ -63,7 +63,7 @@ impl From<AllocError> for CertificateFault {
 
 impl From<MoveFault> for CertificateFault {
     ghost use Rattle.std.specs.Prelude.{◌≡◌};
-    ghost use Rattle.certificate.specs.aid.Faults.{of_search};
+    ghost use Rattle.certificate.specs.lemmas.Faults.{of_search};
 
     ghost from_gives = { λ why fault. fault ≡ of_search why };
 
@@ -77,7 +77,7 @@ impl From<MoveFault> for CertificateFault {
 
 impl From<GameFault> for CertificateFault {
     ghost use Rattle.std.specs.Prelude.{◌≡◌};
-    ghost use Rattle.certificate.specs.aid.Faults.{of_text};
+    ghost use Rattle.certificate.specs.lemmas.Faults.{of_text};
 
     ghost from_gives = { λ why fault. fault ≡ of_text why };
 

@@ -4,7 +4,7 @@ ghost use Rattle.rbg_game.specs.declared.roles.Role.{Role};
 ghost use Rattle.certificate.specs.Format.{Ascends};
 ghost use Rattle.certificate.specs.Lists.{Stands, lines_in};
 ghost use Rattle.certificate.specs.Strategies.{GoesDown, IsHeld, RanksBelow, RanksFrom};
-ghost use Rattle.certificate.specs.aid.Found.{SomeOf, EachOf};
+ghost use Rattle.certificate.specs.lemmas.Found.{SomeOf, EachOf};
 
 use crate::ranked::{Ranked, ranks_below, ranks_from};
 use legal_moves::{MoveFault, MoveSource};

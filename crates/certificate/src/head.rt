@@ -4,7 +4,7 @@ ghost use Rattle.rbg_text.specs.Token.{Text};
 ghost use Rattle.rbg_game.specs.Goals.{points_of};
 ghost use Rattle.certificate.specs.Claims.{goal_line};
 ghost use Rattle.certificate.specs.Format.{Beginning, Begins, IsGoal};
-ghost use Rattle.certificate.specs.aid.Parts.{IsGoalOf, text_part};
+ghost use Rattle.certificate.specs.lemmas.Parts.{IsGoalOf, text_part};
 ghost use Rattle.certificate.specs.declared.fault.CertificateFault.TheVariants.{Malformed};
 
 use crate::fault::{CertificateFault, Refusal};

@@ -2,9 +2,9 @@
 ghost use Rattle.std.specs.Prelude.{◌≡◌, ◌≢◌, ◌<◌, ◌^◌, ◌↔◌, ℕ, List, [], ◌∷◌, ◌++◌, All, length, true, MatchOption, IsTrue, slice_index};
 ghost use Rattle.std.specs.Fmt.{decimal};
 ghost use Rattle.std.specs.Str.Parse.{IsNumeral, digits_value, without_leading_plus};
-ghost use Rattle.position_pack.specs.aid.Spelled.{IsSplitAt};
+ghost use Rattle.position_pack.specs.lemmas.Spelled.{IsSplitAt};
 ghost use Rattle.certificate.specs.Format.{IsOneLine, lines};
-ghost use Rattle.certificate.specs.aid.Parts.{IsSplitAtLast, EndsList};
+ghost use Rattle.certificate.specs.lemmas.Parts.{IsSplitAtLast, EndsList};
 
 /// What stands behind these words, with which the bytes begin.
 pub fn after<'a>(bytes: &'a [u8], words: &[u8]) -> Option<&'a [u8]>

@@ -7,7 +7,7 @@ ghost use Rattle.position_pack.specs.Packings.{IsPacked};
 ghost use Rattle.position_pack.specs.Shape.{IsSmall};
 ghost use Rattle.certificate.specs.Format.{Ascends, letters, lines, words_of};
 ghost use Rattle.certificate.specs.Lists.{line_of, lines_in};
-ghost use Rattle.certificate.specs.aid.Parts.{
+ghost use Rattle.certificate.specs.lemmas.Parts.{
   AreReadLines,
   AreLinesRefused,
   EndsList,

@@ -8,8 +8,8 @@ ghost use Rattle.certificate.specs.Refusals.{AreUnread};
 ghost use Rattle.certificate.specs.Right.{AreShown};
 ghost use Rattle.certificate.specs.Shown.{AreNarrow, IsUnshown};
 ghost use Rattle.certificate.specs.Lists.{lines_in};
-ghost use Rattle.certificate.specs.aid.Parts.{AreAsked};
-ghost use Rattle.certificate.specs.aid.Reasons.{AreReadLists, AreTheLists, IsNotShown};
+ghost use Rattle.certificate.specs.lemmas.Parts.{AreAsked};
+ghost use Rattle.certificate.specs.lemmas.Reasons.{AreReadLists, AreTheLists, IsNotShown};
 
 use crate::claim::{Claimed, name_of};
 use crate::fault::{CertificateFault, Refusal};

@@ -5,8 +5,8 @@ ghost use Rattle.certificate.specs.Lists.{lines_in};
 ghost use Rattle.certificate.specs.Right.{AreShown};
 ghost use Rattle.certificate.specs.Shown.{AreNarrow, Follows, IsNarrow, Shows, IsUnfollowed, IsUnshown};
 ghost use Rattle.certificate.specs.Format.{Ascends};
-ghost use Rattle.certificate.specs.aid.Faults.{of_search};
-ghost use Rattle.certificate.specs.aid.Parts.{AreAsked};
+ghost use Rattle.certificate.specs.lemmas.Faults.{of_search};
+ghost use Rattle.certificate.specs.lemmas.Parts.{AreAsked};
 ghost use Rattle.certificate.specs.declared.fault.CertificateFault.TheVariants as fault;
 ghost use Rattle.certificate.specs.declared.claim.Claimed.TheVariants as claimed;
 

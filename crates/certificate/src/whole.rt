@@ -5,7 +5,7 @@ ghost use Rattle.certificate.specs.Format.{Ascends, Line};
 ghost use Rattle.certificate.specs.Lists.{Stands, line_of, lines_in};
 ghost use Rattle.certificate.specs.Shown.{Follows, IsNarrow, IsSearched};
 ghost use Rattle.certificate.specs.Strategies.{IsHeldFor};
-ghost use Rattle.certificate.specs.aid.Parts.{AllFit};
+ghost use Rattle.certificate.specs.lemmas.Parts.{AllFit};
 
 use crate::going::{goes_down, is_held};
 use crate::manner::{Manner, NEVER};

@@ -67,6 +67,7 @@ module _ (number : ℕ) (bytes : List ℕ) (goal : Option ℕ) (text : Text) (po
         claim_is = subst (IsToldAs told.value) (sym two.claim_is) told.claim_is;
       }
 
-  pub from_kept : (kept : Option Kept) → OfKept (IsToldOf number text position claim) kept → goal ≡ goal_kept kept → OfKept (IsCertificateFrom number bytes) kept
+  pub from_kept : (kept : Option Kept) → OfKept (IsToldOf number text position claim) kept → goal ≡ goal_kept kept
+      → OfKept (IsCertificateFrom number bytes) kept
   from_kept None told same = told
   from_kept (Some kept) told same = from_table kept told same

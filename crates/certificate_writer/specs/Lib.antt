@@ -1,4 +1,4 @@
 pub mod Packers
-pub mod Keeping
+pub mod Frames
 pub mod Told
 pub mod Written

@@ -1,5 +1,5 @@
 //! A delay of a player: all moves where the player has the turn, and one that delays elsewhere.
-ghost use Rattle.certificate_writer.specs.Keeping.{KeepsGoal};
+ghost use Rattle.certificate_writer.specs.Frames.{KeepsGoal};
 ghost use Rattle.certificate_writer.specs.Packers.{IsProper};
 ghost use Rattle.std.specs.Prelude.{◌<◌, IfSome, length};
 

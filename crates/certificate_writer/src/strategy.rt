@@ -1,5 +1,5 @@
 //! A strategy of a player: one best move where the player has the turn, and all moves elsewhere.
-ghost use Rattle.certificate_writer.specs.Keeping.{KeepsGoal};
+ghost use Rattle.certificate_writer.specs.Frames.{KeepsGoal};
 ghost use Rattle.certificate_writer.specs.Packers.{IsProper};
 ghost use Rattle.std.specs.Prelude.{◌<◌, IfSome, length};
 

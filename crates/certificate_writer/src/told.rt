@@ -1,6 +1,6 @@
 //! What the table tells of the position whose value is to be shown.
 ghost use Rattle.std.specs.Prelude.{◌≡◌, Some, IfOk};
-ghost use Rattle.certificate_writer.specs.Keeping.{KeepsGoal};
+ghost use Rattle.certificate_writer.specs.Frames.{KeepsGoal};
 ghost use Rattle.certificate_writer.specs.Told.{IsToldAs, IsToldOf};
 ghost use Rattle.game_file.specs.Kept.{text_kept};
 ghost use Rattle.solver.specs.Queries.{Tells};

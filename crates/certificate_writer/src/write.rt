@@ -3,7 +3,7 @@ ghost use Rattle.std.specs.Prelude.{◌≡◌, ◌++◌, IfOk, None};
 ghost use Rattle.rbg_game.specs.Goals.{points_of};
 ghost use Rattle.certificate.specs.Claims.{head_of};
 ghost use Rattle.certificate.specs.Right.{IsAcceptable};
-ghost use Rattle.certificate_writer.specs.Keeping.{KeepsGoal};
+ghost use Rattle.certificate_writer.specs.Frames.{KeepsGoal};
 ghost use Rattle.certificate_writer.specs.Packers.{IsProper};
 ghost use Rattle.certificate_writer.specs.Told.{IsToldOf};
 ghost use Rattle.certificate_writer.specs.Written.{IsCertificateFrom, IsCertificateOf};

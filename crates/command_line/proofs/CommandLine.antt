@@ -11,7 +11,7 @@ use Rattle.clap.specs.declared.builder.command.Command.{Command}
 use Rattle.clap.specs.declared.parser.matches.ArgMatches.TheViews.{out-SubCommand}
 use Rattle.clap.specs.declared.parser.matches.SubCommand.{SubCommand}
 use Rattle.command_line.specs.declared.words.Words.{Words}
-use Rattle.command_line.specs.Building.{AsksIfAny, HasApp, HasRule, leaf}
+use Rattle.command_line.specs.Commands.{AsksIfAny, HasApp, HasRule, leaf}
 use Rattle.command_line.specs.Words.{AsksIn, CommandForm, Found, Is, Owned}
 
 -- one more word

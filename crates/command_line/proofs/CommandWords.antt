@@ -9,7 +9,7 @@ use Rattle.clap.specs.declared.builder.command.Command.{Command}
 use Rattle.clap.specs.declared.error.Error.{Error}
 use Rattle.clap.specs.declared.parser.matches.ArgMatches.{ArgMatches}
 use Rattle.command_line.specs.declared.words.Words.{Words}
-use Rattle.command_line.specs.Building.{AskNothing, FailAs, HasApp}
+use Rattle.command_line.specs.Commands.{AskNothing, FailAs, HasApp}
 use Rattle.command_line.specs.Words.{AsksBy, Mean, program}
 
 is_a_simple_one : is_simple program ≡ true

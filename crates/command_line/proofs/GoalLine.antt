@@ -22,7 +22,7 @@ use Rattle.clap.specs.declared.builder.value_parser.Reading.TheVariants.{Without
 use Rattle.clap.specs.declared.builder.value_parser.ValueParser.{ValueParser}
 use Rattle.clap.specs.declared.builder.value_parser.ValueParser.TheVariants.{Signed}
 use Rattle.command_line.specs.Words.{file_word, game_word, goal_word, load, program, shape_in}
-use Rattle.command_line.proofs.Spelling.{IsRead, not_a_digit, row}
+use Rattle.command_line.proofs.WrittenLines.{IsRead, not_a_digit, row}
 
 module _ (parser : ValueParser) (name file game points : Text) (is_file : IsRead file) (is_game : IsRead game) (is_points : IsRead points) where
   load_with : Shape

@@ -1,6 +1,6 @@
 mod CommandLine
 mod CommandWords
 mod GoalLine
-mod Spelling
+mod WrittenLines
 mod Units
 mod ReservedLine

@@ -7,7 +7,7 @@ use Rattle.clap.specs.Simple.{built, built_leaf, inherited, names_of, new_shape}
 use Rattle.clap.specs.Walk.{Held, finished, nothing_held, settled, walk, walk_from}
 use Rattle.clap.specs.Words.{Shape, Text, fault_of}
 use Rattle.command_line.specs.Words.{file_word, pages_word, program, reserve_word}
-use Rattle.command_line.proofs.Spelling.{IsRead, row}
+use Rattle.command_line.proofs.WrittenLines.{IsRead, row}
 
 module _ (command file number : Text) (is_file : IsRead file) (is_number : IsRead number) where
   -- the command as it is built, its words, and what is held at their end
@@ -50,11 +50,13 @@ module _ (name file number : Text) (is_file : IsRead file) (is_number : IsRead n
   pub create_reserved_right : fault_of program (name ∷ codes "create" ∷ file ∷ codes "--pages" ∷ number ∷ codes "--reserve" ∷ []) ≡ []
   unfolding clap_on_literals built_command words
   create_reserved_right =
-      ap (λ kinds. level_fault (built program).top (names_of (built program)) nothing_held (codes "create" ∷ words (codes "create") file number is_file is_number) true kinds)
+      ap (λ kinds. level_fault (built program).top (names_of (built program)) nothing_held
+      (codes "create" ∷ words (codes "create") file number is_file is_number) true kinds)
       (nothing_below (codes "create") file number is_file is_number)
 
   pub grow_reserved_right : fault_of program (name ∷ codes "grow" ∷ file ∷ codes "--pages" ∷ number ∷ codes "--reserve" ∷ []) ≡ []
   unfolding clap_on_literals built_command words
   grow_reserved_right =
-      ap (λ kinds. level_fault (built program).top (names_of (built program)) nothing_held (codes "grow" ∷ words (codes "grow") file number is_file is_number) true kinds)
+      ap (λ kinds. level_fault (built program).top (names_of (built program)) nothing_held
+      (codes "grow" ∷ words (codes "grow") file number is_file is_number) true kinds)
       (nothing_below (codes "grow") file number is_file is_number)

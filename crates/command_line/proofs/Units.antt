@@ -6,7 +6,7 @@ use Rattle.std.specs.Str.Parse.{AllDigits, IsNumeral, digits_value}
 use Rattle.std.proofs.Math.Nat.{pow-le-pow_right}
 use Rattle.std.proofs.lemmas.Bool.Decides.{eqb_tells}
 use Rattle.std.proofs.lemmas.Int.Digits.{digits_value-lt}
-use Rattle.command_line.specs.Building.{AreWhole, WritesCount}
+use Rattle.command_line.specs.Commands.{AreWhole, WritesCount}
 use Rattle.command_line.specs.Words.{AsksPages, HasUnit}
 
 not_empty : (ys : List ℕ) (b : ℕ) → [] ≡ ys ++ b ∷ [] → ⊥

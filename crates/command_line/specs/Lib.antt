@@ -1,4 +1,4 @@
 pub mod Words
-pub mod Building
+pub mod Commands
 pub mod Statuses
 pub mod Options

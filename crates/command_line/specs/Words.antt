@@ -33,7 +33,7 @@ needed id = record (new_rule id) { action = Some Set; required = true }
 abbrev pub free : Text → Rule
 free id = record (new_rule id) { action = Some Set }
 
--- the same behind `--` and its name
+-- a rule for a word behind `--` and its name
 abbrev pub behind : Rule → Rule
 behind rule = record rule { long = Some rule.id; value_names = 1 }
 

@@ -3,7 +3,7 @@ ghost use Rattle.std.specs.Prelude.{◌≡◌, ◌↔◌, ℕ, IfOk, IsTrue, Mat
 ghost use Rattle.std.specs.Prelude.{string_bytes};
 ghost use Rattle.clap.specs.Words.{subcommand_rows_of};
 ghost use Rattle.rbg_game.specs.declared.goal.Goal.{Goal};
-ghost use Rattle.command_line.specs.Building.{AsksIfAny, word_in};
+ghost use Rattle.command_line.specs.Commands.{AsksIfAny, word_in};
 ghost use Rattle.command_line.specs.Words.{ArePagesAsked, AsksBy, AsksIn, IsGoal, IsPosition, commands};
 ghost use Rattle.command_line.specs.Words.{actions, audit, certify, check, create, game};
 ghost use Rattle.command_line.specs.Words.{grow, load, look, migrate, moves, session};

@@ -1,7 +1,7 @@
 //! The words of the commands on the text of a game, and on a certificate.
 
 ghost use Rattle.std.specs.Prelude.{IfOk};
-ghost use Rattle.command_line.specs.Building.{HasApp, HasRule, leaf};
+ghost use Rattle.command_line.specs.Commands.{HasApp, HasRule, leaf};
 ghost use Rattle.command_line.specs.Words.{actions, check, moves, position_word, shape_in};
 
 use crate::words::{free_word, game_word, named, required_word};

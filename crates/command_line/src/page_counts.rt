@@ -1,7 +1,7 @@
 //! How many pages a word of a command line asks for.
 ghost use Rattle.std.specs.Prelude.{◌≡◌, List, ℕ, MatchOption};
 ghost use Rattle.std.specs.Str.Parse.{IsNumeral};
-ghost use Rattle.command_line.specs.Building.{AreWhole, WritesCount};
+ghost use Rattle.command_line.specs.Commands.{AreWhole, WritesCount};
 ghost use Rattle.command_line.specs.Words.{AsksPages, HasUnit};
 
 use page_store::MAX_PAGES;

@@ -2,7 +2,7 @@
 
 ghost use Rattle.std.specs.Prelude.{◌≡◌, IfOk, pos};
 ghost use Rattle.clap.specs.declared.builder.value_parser.ValueParser.TheVariants.{Signed};
-ghost use Rattle.command_line.specs.Building.{HasApp, HasRule, leaf};
+ghost use Rattle.command_line.specs.Commands.{HasApp, HasRule, leaf};
 ghost use Rattle.command_line.specs.Words.{about_word, file_word, goal_word, pages_word, quiet_word, reserve_word};
 ghost use Rattle.command_line.specs.Words.{shape_in};
 ghost use Rattle.command_line.specs.Words.{audit, certify, create, game, grow, load, look, migrate, session};

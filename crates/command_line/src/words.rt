@@ -2,7 +2,7 @@
 ghost use Rattle.std.specs.Prelude.{IfErr, IfOk, map, string_bytes};
 ghost use Rattle.clap.specs.Values.{kind_of};
 ghost use Rattle.clap.specs.Words.{App, Shape, new_app, subcommand_rows_of, with_subcommand};
-ghost use Rattle.command_line.specs.Building.{AskNothing, EndsAs, FailAs, HasApp, HasRule, leaf};
+ghost use Rattle.command_line.specs.Commands.{AskNothing, EndsAs, FailAs, HasApp, HasRule, leaf};
 ghost use Rattle.command_line.specs.Statuses.{IsStatusOfWords};
 ghost use Rattle.command_line.specs.Words.{AsksBy, Mean, alone_program, free, game_word, needed, program};
 

@@ -8,10 +8,10 @@ use Rattle.retrograde.specs.Stored.{Stored, IsTable, loaded}
 use Rattle.retrograde.specs.Changes.{with_position, with_record, fresh_record}
 use Rattle.game_file.specs.Bytes.{IsCell, IsRecord}
 use Rattle.earlier_layouts.specs.Spelled.{AreSpelled}
-use Rattle.earlier_layouts.specs.aid.Items.{spelled_more, spelled_next}
-use Rattle.earlier_layouts.specs.aid.Laws.{long_pairs}
-use Rattle.earlier_layouts.specs.aid.ImageParts.{fixed_cells}
-use Rattle.earlier_layouts.specs.aid.ImageReading.{AreCells, KeepsRest, IsFirstEntry, AddsCell}
+use Rattle.earlier_layouts.specs.lemmas.Items.{spelled_more, spelled_next}
+use Rattle.earlier_layouts.specs.lemmas.Laws.{long_pairs}
+use Rattle.earlier_layouts.specs.lemmas.ImageParts.{fixed_cells}
+use Rattle.earlier_layouts.specs.lemmas.ImageReads.{AreCells, KeepsRest, IsFirstEntry, AddsCell}
 
 pairs_more : {A B : Type 0} (xs : List A) (ys : List B) (x : A) (y : B) → length ys ≡ length xs → zip (xs ++ x ∷ []) (ys ++ y ∷ []) ≡ zip xs ys ++ (x, y) ∷ []
 pairs_more [] [] x y same = refl
@@ -68,7 +68,8 @@ pub rest_then : (old mid new : Stored (List ℕ)) → KeepsRest old mid → Keep
 rest_then old mid new a b = record { edges = b.edges ∙ a.edges; order = b.order ∙ a.order }
 
 -- a cell that is refused stands in no table
-pub cell_refused : (packed : ℕ) (bytes one more : List ℕ) (stored all : Stored (List ℕ)) → AreCells packed bytes stored → AreCells packed (bytes ++ (one ++ more)) all → IsTable all
+pub cell_refused : (packed : ℕ) (bytes one more : List ℕ) (stored all : Stored (List ℕ)) → AreCells packed bytes stored
+    → AreCells packed (bytes ++ (one ++ more)) all → IsTable all
     → length stored.positions < length all.positions → length one ≡ packed + 16
     → ((x : List ℕ × Record) → IsCell packed one x → (j : ℕ) × (slice_get stored.positions j ≡ Some x.0)) → ⊥
 cell_refused packed bytes one more stored all cells whole table less long known =
@@ -83,7 +84,8 @@ cell_refused packed bytes one more stored all cells whole table less long known 
     pairs_less : length (zip stored.positions stored.records) < length (zip all.positions all.records)
     pairs_less = omega (arith, less, long_pairs stored.positions stored.records cells.paired, long_pairs all.positions all.records whole.paired)
 
-    go : ((z : List ℕ × Record) × (ys : List (List ℕ × Record)) × (zip all.positions all.records ≡ zip stored.positions stored.records ++ z ∷ ys) × IsCell packed one z) → ⊥
+    go : ((z : List ℕ × Record) × (ys : List (List ℕ × Record))
+        × (zip all.positions all.records ≡ zip stored.positions stored.records ++ z ∷ ys) × IsCell packed one z) → ⊥
     go (z, ys, is, of) =
         let (j, at) = known z of in
         let firsts : all.positions ≡ stored.positions ++ z.0 ∷ map (λ (p : List ℕ × Record). p.0) ys =
@@ -120,30 +122,33 @@ first_within known width long started is =
     omega (arith, split)
 
 -- the first cell
-pub first_cell : (packed : ℕ) (bytes : List ℕ) (r : Record) (old new : Stored (List ℕ)) → packed ≤ length bytes → IsRecord (drop packed bytes) r → old ≡ loaded (take packed bytes)
+pub first_cell : (packed : ℕ) (bytes : List ℕ) (r : Record) (old new : Stored (List ℕ)) → packed ≤ length bytes
+    → IsRecord (drop packed bytes) r → old ≡ loaded (take packed bytes)
     → new ≡ with_record old 0 r → IsFirstEntry packed bytes new
-first_cell packed bytes r old new long of old_is new_is = subst (λ (s : Stored (List ℕ)). IsFirstEntry packed bytes s) (sym (new_is ∙ ap (λ (s : Stored (List ℕ)). with_record s 0 r) old_is)) (record {
-  cells = record {
-    paired = refl;
-    spelled = (
-      bytes,
-      [],
-      sym (append-nil bytes),
-      record {
-        long = length-take-le packed bytes long;
-        behind = drop packed bytes;
-        is = sym (take-append-drop packed bytes);
-        is_record = of;
-      },
-      refl,
-    );
-  };
-  rest = record { edges = λ i p is. absurd (cc); order = refl };
-  one = refl;
-})
+first_cell packed bytes r old new long of old_is new_is = subst (λ (s : Stored (List ℕ)). IsFirstEntry packed bytes s)
+    (sym (new_is ∙ ap (λ (s : Stored (List ℕ)). with_record s 0 r) old_is)) (record {
+      cells = record {
+        paired = refl;
+        spelled = (
+          bytes,
+          [],
+          sym (append-nil bytes),
+          record {
+            long = length-take-le packed bytes long;
+            behind = drop packed bytes;
+            is = sym (take-append-drop packed bytes);
+            is_record = of;
+          },
+          refl,
+        );
+      };
+      rest = record { edges = λ i p is. absurd (cc); order = refl };
+      one = refl;
+    })
 
 -- a position that is added, and then its record
-pub cell_added : (old mid added new : Stored (List ℕ)) (x : List ℕ) (r : Record) (n : ℕ) → mid ≡ old → added ≡ with_position mid x → new ≡ with_record added n r → n ≡ length mid.positions
+pub cell_added : (old mid added new : Stored (List ℕ)) (x : List ℕ) (r : Record) (n : ℕ) → mid ≡ old → added ≡ with_position mid x
+    → new ≡ with_record added n r → n ≡ length mid.positions
     → new ≡ with_record (with_position old x) (length old.positions) r
 cell_added old mid added new x r n same positioned recorded at =
     let both : added ≡ with_position old x = positioned ∙ ap (λ (s : Stored (List ℕ)). with_position s x) same in

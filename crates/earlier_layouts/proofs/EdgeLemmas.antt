@@ -9,13 +9,13 @@ use Rattle.std.specs.declared.cmp.Ordering.TheVariants.{Less, Equal, Greater}
 use Rattle.std.proofs.lemmas.Bool.{eq-eqb}
 use Rattle.retrograde.specs.Stored.{Stored}
 use Rattle.retrograde.specs.Changes.{with_edge}
-use Rattle.retrograde.proofs.Adding.{is_first, is_later, first_or_later, none_in_empty, edge_cases, edge_kept}
+use Rattle.retrograde.proofs.Additions.{is_first, is_later, first_or_later, none_in_empty, edge_cases, edge_kept}
 use Rattle.table.specs.Memory.{edge_cmp}
 use Rattle.game_file.specs.Bytes.{IsEdge}
 use Rattle.earlier_layouts.specs.Spelled.{AreSpelled}
-use Rattle.earlier_layouts.specs.aid.Items.{spelled_more, spelled_next}
-use Rattle.earlier_layouts.specs.aid.ImageParts.{fixed_edges}
-use Rattle.earlier_layouts.specs.aid.ImageReading.{ChangesEdges, IsPast}
+use Rattle.earlier_layouts.specs.lemmas.Items.{spelled_more, spelled_next}
+use Rattle.earlier_layouts.specs.lemmas.ImageParts.{fixed_edges}
+use Rattle.earlier_layouts.specs.lemmas.ImageReads.{ChangesEdges, IsPast}
 
 -- the order of edges by their numbers
 abbrev pub ComesFirst : ℕ × ℕ → ℕ × ℕ → Type 0
@@ -72,12 +72,14 @@ pub all_contained : {A : Type 0} (P : A → Type 0) (xs : List A) → ((x : A) �
 all_contained P [] each = tt
 all_contained P (x ∷ xs) each = (each x (is_first x xs), all_contained P xs (λ y there. each y (is_later x y xs there)))
 
-pub sorted_push : {A : Type 0} (c : A → A → Ordering) (xs : List A) (y : A) → IsStrictlySortedBy c xs → AllByRecursion (λ x. c x y ≡ Less) xs → IsStrictlySortedBy c (xs ++ y ∷ [])
+pub sorted_push : {A : Type 0} (c : A → A → Ordering) (xs : List A) (y : A) → IsStrictlySortedBy c xs
+    → AllByRecursion (λ x. c x y ≡ Less) xs → IsStrictlySortedBy c (xs ++ y ∷ [])
 unfolding IsStrictlySortedBy
 sorted_push c [] y sorted all = (tt, tt)
 sorted_push c (x ∷ xs) y (first, sorted) (here, all) = (all_push (λ z. c x z ≡ Less) xs y first here, sorted_push c xs y sorted all)
 
-sorted_seam : {A : Type 0} (c : A → A → Ordering) (xs : List A) (y : A) (ys : List A) → IsStrictlySortedBy c (xs ++ y ∷ ys) → AllByRecursion (λ x. c x y ≡ Less) xs
+sorted_seam : {A : Type 0} (c : A → A → Ordering) (xs : List A) (y : A) (ys : List A) → IsStrictlySortedBy c (xs ++ y ∷ ys)
+    → AllByRecursion (λ x. c x y ≡ Less) xs
 unfolding IsStrictlySortedBy
 sorted_seam c [] y ys sorted = tt
 sorted_seam c (x ∷ xs) y ys (first, sorted) = (all_seam (λ z. c x z ≡ Less) xs y ys first, sorted_seam c xs y ys sorted)
@@ -140,7 +142,8 @@ one_more_edge bytes one count before (i, p) old new so_far of past added =
       ascending = sorted_push edge_cmp so_far.edges (i, p) so_far.ascending each;
       exactly = λ j q. (to j q, from j q);
       past = λ e. (
-        λ less. all_push (λ x. edge_cmp x e ≡ Less) so_far.edges (i, p) (all_map (λ x. edge_cmp x (i, p) ≡ Less) (λ x. edge_cmp x e ≡ Less) so_far.edges (λ x first. less_then x (i, p) e first less) each) less,
+        λ less. all_push (λ x. edge_cmp x e ≡ Less) so_far.edges (i, p)
+            (all_map (λ x. edge_cmp x (i, p) ≡ Less) (λ x. edge_cmp x e ≡ Less) so_far.edges (λ x first. less_then x (i, p) e first less) each) less,
         λ all. all_seam (λ x. edge_cmp x e ≡ Less) so_far.edges (i, p) [] all,
       );
     }
@@ -173,7 +176,8 @@ edge_changes first old new edge kept added = record {
 }
 
 -- an edge that is refused stands in no table
-pub edge_refused : (bytes one more : List ℕ) (count known : ℕ) (before : Option (ℕ × ℕ)) (stored : Stored (List ℕ)) (all : List (ℕ × ℕ)) → EdgesSoFar bytes count before stored
+pub edge_refused : (bytes one more : List ℕ) (count known : ℕ) (before : Option (ℕ × ℕ)) (stored : Stored (List ℕ)) (all : List (ℕ × ℕ))
+    → EdgesSoFar bytes count before stored
     → AreSpelled IsEdge (bytes ++ (one ++ more)) all → count < length all → length one ≡ 8 → IsStrictlySortedBy edge_cmp all
     → ((i p : ℕ) → Contains all (i, p) → (i < known) × (p < known))
     → ((e : ℕ × ℕ) → IsEdge one e → IsPast before e → e.0 < known → e.1 < known → ⊥) → ⊥
@@ -182,7 +186,8 @@ edge_refused bytes one more count known before stored all so_far spelled less lo
   where
     go : ((z : ℕ × ℕ) × (ys : List (ℕ × ℕ)) × (all ≡ so_far.edges ++ z ∷ ys) × IsEdge one z) → ⊥
     go (z, ys, is, of) =
-        let past : IsPast before z = (so_far.past z).1 (sorted_seam edge_cmp so_far.edges z ys (subst (λ (es : List (ℕ × ℕ)). IsStrictlySortedBy edge_cmp es) is sorted)) in
+        let past : IsPast before z = (so_far.past z).1
+        (sorted_seam edge_cmp so_far.edges z ys (subst (λ (es : List (ℕ × ℕ)). IsStrictlySortedBy edge_cmp es) is sorted)) in
         let there : Contains all (z.0, z.1) = subst (λ (es : List (ℕ × ℕ)). Contains es z) (sym is) (at_seam so_far.edges z ys) in
         let (first, second) = within z.0 z.1 there in
         refused z of past first second

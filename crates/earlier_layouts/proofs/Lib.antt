@@ -4,15 +4,15 @@ mod OrderLemmas
 mod Outcomes
 mod Splits
 mod TableLemmas
-mod ImagePassing
+mod ImageExits
 mod ReadLemmas
-pub mod Passing
+pub mod Exits
 pub mod Whole
-pub mod Reading
-pub mod SlotReading
-pub mod Opening
+pub mod ChainReads
+pub mod SlotReads
+pub mod OpenedFile
 pub mod Lists
 pub mod Bounds
-pub mod CopyPassing
+pub mod CopyExits
 mod Tables
-mod Carrying
+mod CarriedFile

@@ -7,7 +7,7 @@ use Rattle.std.proofs.Math.Seq.{set-append_seam}
 use Rattle.retrograde.specs.declared.records.Record.{Record}
 use Rattle.retrograde.specs.Stored.{Stored, HasRecord, IsTable}
 use Rattle.retrograde.specs.Changes.{fresh_record, with_position, with_record, with_settled}
-use Rattle.earlier_layouts.specs.aid.CopyParts.{with_positions, with_order}
+use Rattle.earlier_layouts.specs.lemmas.CopyParts.{with_positions, with_order}
 
 -- an item below this place of a list stands at its place in the whole list
 from_take : {X : Type 0} (xs : List X) (n i : ℕ) (x : X) → slice_get (take n xs) i ≡ Some x → (slice_get xs i ≡ Some x) × (i < n)

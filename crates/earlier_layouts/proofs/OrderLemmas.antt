@@ -4,11 +4,12 @@ use Rattle.retrograde.specs.Stored.{Stored}
 use Rattle.retrograde.specs.Changes.{with_settled}
 use Rattle.game_file.specs.Bytes.{IsNumber}
 use Rattle.earlier_layouts.specs.Spelled.{AreSpelled}
-use Rattle.earlier_layouts.specs.aid.Items.{spelled_more}
-use Rattle.earlier_layouts.specs.aid.ImageReading.{AddsOrder}
+use Rattle.earlier_layouts.specs.lemmas.Items.{spelled_more}
+use Rattle.earlier_layouts.specs.lemmas.ImageReads.{AddsOrder}
 
 -- one more settled number
-pub one_more_number : (bytes one : List ℕ) (count n : ℕ) (first old new : Stored (List ℕ)) → AddsOrder bytes count first old → IsNumber one n → new ≡ with_settled old n
+pub one_more_number : (bytes one : List ℕ) (count n : ℕ) (first old new : Stored (List ℕ)) → AddsOrder bytes count first old
+    → IsNumber one n → new ≡ with_settled old n
     → AddsOrder (bytes ++ one) (count + 1) first new
 one_more_number bytes one count n first old new so_far of added =
     let order : new.order ≡ old.order ++ n ∷ [] = ap (λ (s : Stored (List ℕ)). s.order) added in

@@ -3,7 +3,7 @@ use Rattle.std.proofs.Common.{◌≡◌, ◌∙◌, sym, subst, ℕ, Bool, true,
 use Rattle.std.specs.Prelude.{ok_or, is_some}
 use Rattle.retrograde.specs.declared.records.Record.{Record}
 use Rattle.game_file.specs.Bytes.{IsCell, IsRecord}
-use Rattle.game_file.specs.aid.Records.{same_fronts}
+use Rattle.game_file.specs.lemmas.Records.{same_fronts}
 use Rattle.earlier_layouts.specs.declared.image.fault.BytesFault.{BytesFault}
 use Rattle.earlier_layouts.proofs.Splits.{both_parts}
 
@@ -38,12 +38,14 @@ module _ (packed : ℕ) (cell front kept : List ℕ) (front_is : front ≡ take 
   not_a_cell none x of = none x.1 (subst (λ (b : List ℕ). IsRecord b x.1) (sym (parts x of).1) of.is_record)
 
 -- a position is known, or not
-pub known_already : (o : Option ℕ) (b : Bool) (positions : List (List ℕ)) (x : List ℕ) → b ≡ is_some o → b ≡ true → IfSome o (λ i. slice_get positions i ≡ Some x)
+pub known_already : (o : Option ℕ) (b : Bool) (positions : List (List ℕ)) (x : List ℕ) → b ≡ is_some o → b ≡ true
+    → IfSome o (λ i. slice_get positions i ≡ Some x)
     → (j : ℕ) × (slice_get positions j ≡ Some x)
 known_already None b positions x is so at = absurd (cc)
 known_already (Some i) b positions x is so at = (i, at)
 
-pub unknown_still : (o : Option ℕ) (b : Bool) (positions : List (List ℕ)) (x : List ℕ) → b ≡ is_some o → b ≡ false → IfNone o ((i : ℕ) → slice_get positions i ≡ Some x → ⊥)
+pub unknown_still : (o : Option ℕ) (b : Bool) (positions : List (List ℕ)) (x : List ℕ) → b ≡ is_some o → b ≡ false
+    → IfNone o ((i : ℕ) → slice_get positions i ≡ Some x → ⊥)
     → (i : ℕ) → slice_get positions i ≡ Some x → ⊥
 unknown_still None b positions x is so none = none
 unknown_still (Some i) b positions x is so none = absurd (cc)

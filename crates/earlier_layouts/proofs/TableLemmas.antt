@@ -4,10 +4,10 @@ use Rattle.retrograde.specs.declared.records.Record.{Record}
 use Rattle.retrograde.specs.Stored.{Stored, IsTable}
 use Rattle.game_file.specs.Bytes.{IsCell, IsEdge}
 use Rattle.earlier_layouts.specs.Spelled.{AreSpelled, SpellsTable}
-use Rattle.game_file.specs.aid.Records.{same_fronts}
-use Rattle.earlier_layouts.specs.aid.Laws.{PartLengths, part_lengths, long_pairs}
-use Rattle.earlier_layouts.specs.aid.ImageParts.{fixed_cells}
-use Rattle.earlier_layouts.specs.aid.ImageReading.{AreCells, AreEdges, ChangesEdges, AddsOrder}
+use Rattle.game_file.specs.lemmas.Records.{same_fronts}
+use Rattle.earlier_layouts.specs.lemmas.Laws.{PartLengths, part_lengths, long_pairs}
+use Rattle.earlier_layouts.specs.lemmas.ImageParts.{fixed_cells}
+use Rattle.earlier_layouts.specs.lemmas.ImageReads.{AreCells, AreEdges, ChangesEdges, AddsOrder}
 use Rattle.game_file.specs.declared.sizes.Sizes.{Sizes}
 use Rattle.earlier_layouts.proofs.Splits.{both_parts}
 
@@ -36,7 +36,8 @@ split_table sizes bytes front rest cells other edges order k k_is front_is rest_
     }
 
 -- they are those that a table spells
-module _ (sizes : Sizes) (bytes front cells edges order text : List ℕ) (stored : Stored (List ℕ)) (split : IsSplit sizes bytes front cells edges order) (s : SpellsTable sizes bytes text stored) where
+module _ (sizes : Sizes) (bytes front cells edges order text : List ℕ) (stored : Stored (List ℕ))
+    (split : IsSplit sizes bytes front cells edges order) (s : SpellsTable sizes bytes text stored) where
   long : PartLengths sizes s.cells s.edge_bytes s.order
   long = part_lengths sizes bytes text stored s
 
@@ -106,7 +107,8 @@ first_spelled IsOf bytes [] is some = absurd (omega arith)
 first_spelled IsOf bytes (x ∷ xs) (one, rest, is, of, more) some = (x, one, rest, is, of)
 
 -- the first cell of a table
-pub first_of : (sizes : Sizes) (bytes front rest cell back text : List ℕ) (stored : Stored (List ℕ)) → SpellsTable sizes bytes text stored → 1 ≤ sizes.counts.known
+pub first_of : (sizes : Sizes) (bytes front rest cell back text : List ℕ) (stored : Stored (List ℕ)) → SpellsTable sizes bytes text stored
+    → 1 ≤ sizes.counts.known
     → front ≡ take sizes.text bytes → rest ≡ drop sizes.text bytes → cell ≡ take (sizes.packed + 16) rest → back ≡ drop (sizes.packed + 16) rest
     → length front ≡ sizes.text → length cell ≡ sizes.packed + 16 → (x : List ℕ × Record) × IsCell sizes.packed cell x
 first_of sizes bytes front rest cell back text stored s started front_is rest_is cell_is back_is front_long cell_long =
@@ -115,7 +117,8 @@ first_of sizes bytes front rest cell back text stored s started front_is rest_is
     some : 1 ≤ length (zip stored.positions stored.records)
     some = omega (arith, long_pairs stored.positions stored.records (s.recorded ∙ sym s.known), s.known, started)
 
-    go : ((x : List ℕ × Record) × (one more : List ℕ) × (s.cells ≡ one ++ more) × IsCell sizes.packed one x) → (x : List ℕ × Record) × IsCell sizes.packed cell x
+    go : ((x : List ℕ × Record) × (one more : List ℕ) × (s.cells ≡ one ++ more) × IsCell sizes.packed one x) → (x : List ℕ × Record)
+        × IsCell sizes.packed cell x
     go (x, one, more, is, of) =
         let split : bytes ≡ front ++ rest = both_parts bytes front rest sizes.text front_is rest_is in
         let cells : rest ≡ cell ++ back = both_parts rest cell back (sizes.packed + 16) cell_is back_is in

@@ -9,9 +9,9 @@ use Rattle.earlier_layouts.specs.Copies.{LeavesOfCopy}
 use Rattle.earlier_layouts.specs.declared.fault.CopyFault.{CopyFault}
 use Rattle.earlier_layouts.specs.declared.fault.CopyFault.TheVariants.{From, To, Inconsistent}
 use Rattle.tree_table.specs.declared.slot.TreeSlot.{TreeSlot}
-use Rattle.tree_table.specs.Working.{Work, work_of, table_now, IsHonestWork, HoldsTable, HoldsWork, WorkGoesOn, WorkFails, NoAnswerCause}
-use Rattle.tree_table.proofs.Holding.{holds_itself}
-use Rattle.earlier_layouts.specs.aid.MovingSteps.{StepCause, of_copy}
+use Rattle.tree_table.specs.WorkTable.{Work, work_of, table_now, IsHonestWork, HoldsTable, HoldsWork, WorkGoesOn, WorkFails, NoAnswerCause}
+use Rattle.tree_table.proofs.HeldTable.{holds_itself}
+use Rattle.earlier_layouts.specs.lemmas.MovingSteps.{StepCause, of_copy}
 
 -- from a table that holds nothing
 module _ (slot : TreeSlot) (text : List ℕ) (store : Store) (few : slot.sizes.counts.known ≤ 2 ^ 24)

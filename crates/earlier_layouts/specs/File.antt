@@ -2,10 +2,10 @@
 use Rattle.std.specs.Prelude.{◌≡◌, ℕ, ◌≤◌, ◌<◌, ◌^◌, false, List, [], length, Option, None, Some, Contains, IsTrue}
 use Rattle.page_store.specs.declared.marks.Mark.TheVariants.{Free}
 use Rattle.page_store.specs.Marks.{mark}
-use Rattle.page_store.specs.Spelling.{Stands, IsCalm}
+use Rattle.page_store.specs.Spelled.{Stands, IsCalm}
 use Rattle.page_store.specs.Store.{Store, IsSoundStore}
 use Rattle.table.specs.InMemory.{stored_in}
-use Rattle.table.specs.Fitting.{FitsTogether}
+use Rattle.table.specs.Fit.{FitsTogether}
 use Rattle.earlier_layouts.specs.declared.game.Game.{Game}
 use Rattle.earlier_layouts.specs.Held.{KeepsTable}
 use Rattle.game_file.specs.Kept.{Kept}

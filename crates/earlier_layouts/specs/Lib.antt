@@ -15,10 +15,10 @@ pub use Rattle.retrograde.specs.Changes
 pub use Rattle.retrograde.specs.Stored
 pub use Rattle.root_pair.specs.Root
 pub use Rattle.sector_disk.specs.Disk
-pub use Rattle.table.specs.Fitting
+pub use Rattle.table.specs.Fit
 pub use Rattle.table.specs.InMemory
 pub use Rattle.table.specs.Memory
-pub use Rattle.tree_file.specs.Moving as TreeFileMoving
+pub use Rattle.tree_file.specs.MoveCauses as TreeFileMoving
 pub use Rattle.tree_table.specs.Held as TreeTableHeld
 pub mod Spelled
 pub mod Length
@@ -29,5 +29,5 @@ pub mod ReadCauses
 pub mod Calls
 pub mod InFile
 pub mod Copies
-pub mod Moving
-pub mod aid
+pub mod MoveCauses
+pub mod lemmas

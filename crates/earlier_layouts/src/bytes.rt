@@ -3,7 +3,7 @@ ghost use Rattle.std.specs.Prelude.{◌≡◌, ◌↔◌, ◌≤◌, ◌^◌, tr
 ghost use Rattle.table.specs.InMemory.{stored_in};
 ghost use Rattle.game_file.specs.Numbers.{AreWithinLimits};
 ghost use Rattle.earlier_layouts.specs.Length.{bytes_in};
-ghost use Rattle.earlier_layouts.specs.aid.Reading.{IsWhole, IsTableOf, IsGameIn, SpellingCause};
+ghost use Rattle.earlier_layouts.specs.lemmas.FileReads.{IsWhole, IsTableOf, IsGameIn, SpellingCause};
 
 use crate::game::Game;
 use crate::image::{BytesFault, read_table};

@@ -9,8 +9,8 @@ ghost use Rattle.page_store.specs.Store.{Store};
 ghost use Rattle.game_file.specs.Fields.{commits_in, layout_in, SaysPages};
 ghost use Rattle.tree_table.specs.Held.{StoresTrees};
 ghost use Rattle.tree_table.specs.Slot.{IsEmptyTreeSlot};
-ghost use Rattle.tree_file.specs.Moving.{IsMoved, IsNotMoved};
-ghost use Rattle.earlier_layouts.specs.aid.MovingSteps.{IsCopied, NewRootCause};
+ghost use Rattle.tree_file.specs.MoveCauses.{IsMoved, IsNotMoved};
+ghost use Rattle.earlier_layouts.specs.lemmas.MovingSteps.{IsCopied, NewRootCause};
 
 use game_file::{FileFault, put_long};
 use page_store::Pages;

@@ -4,7 +4,7 @@ ghost use Rattle.retrograde.specs.Stored.{IsTable};
 ghost use Rattle.table.specs.Records.{nothing};
 ghost use Rattle.table.specs.Frames.{IsRead};
 ghost use Rattle.earlier_layouts.specs.Copies.{LeavesOfCopy};
-ghost use Rattle.earlier_layouts.specs.aid.CopyParts.{HasGoneOn};
+ghost use Rattle.earlier_layouts.specs.lemmas.CopyParts.{HasGoneOn};
 
 use crate::edges::copy_edges;
 use crate::fault::CopyFault;

@@ -8,9 +8,9 @@ ghost use Rattle.retrograde.specs.Stored.{IsTable};
 ghost use Rattle.table.specs.InMemory.{stored_in, counted_in};
 ghost use Rattle.table.specs.Records.{nothing};
 ghost use Rattle.tree_table.specs.InTrees.{work_in};
-ghost use Rattle.tree_table.specs.Keeping.{IsSizedSlot};
-ghost use Rattle.tree_table.specs.Working.{HoldsTable, table_now, text_slot, work_of};
-ghost use Rattle.earlier_layouts.specs.aid.MovingSteps.{HasFrameOf, StepCause, of_copy};
+ghost use Rattle.tree_table.specs.KeptTrees.{IsSizedSlot};
+ghost use Rattle.tree_table.specs.WorkTable.{HoldsTable, table_now, text_slot, work_of};
+ghost use Rattle.earlier_layouts.specs.lemmas.MovingSteps.{HasFrameOf, StepCause, of_copy};
 
 use crate::{CopyFault, copy_table};
 use game_file::FileFault;

@@ -2,7 +2,7 @@
 ghost use Rattle.std.specs.Prelude.{◌≡◌, ◌+◌, ◌<◌, OnOk, IfErr, length};
 ghost use Rattle.table.specs.Frames.{IsRead, IsWritten};
 ghost use Rattle.earlier_layouts.specs.Copies.{LeavesOfCopy};
-ghost use Rattle.earlier_layouts.specs.aid.CopyParts.{with_edges};
+ghost use Rattle.earlier_layouts.specs.lemmas.CopyParts.{with_edges};
 
 use crate::fault::CopyFault;
 use table::Table;

@@ -7,8 +7,8 @@ ghost use Rattle.earlier_layouts.specs.InFile.{file_in};
 ghost use Rattle.game_file.specs.State.{count_behind};
 ghost use Rattle.game_file.specs.Fields.{commits_in};
 ghost use Rattle.tree_table.specs.Held.{StoresTrees};
-ghost use Rattle.earlier_layouts.specs.Moving.{MoveCause};
-ghost use Rattle.tree_file.specs.Moving.{IsMoved, IsNotMoved};
+ghost use Rattle.earlier_layouts.specs.MoveCauses.{MoveCause};
+ghost use Rattle.tree_file.specs.MoveCauses.{IsMoved, IsNotMoved};
 
 use crate::FlatTable;
 use crate::committing::{commit_empty, commit_slot};

@@ -3,7 +3,7 @@ ghost use Rattle.std.specs.Prelude.{◌≡◌, ◌+◌, ◌<◌, OnOk, IfErr, le
 ghost use Rattle.retrograde.specs.Stored.{IsTable};
 ghost use Rattle.table.specs.Frames.{IsRead, IsWritten};
 ghost use Rattle.earlier_layouts.specs.Copies.{LeavesOfCopy};
-ghost use Rattle.earlier_layouts.specs.aid.CopyParts.{with_order};
+ghost use Rattle.earlier_layouts.specs.lemmas.CopyParts.{with_order};
 
 use crate::fault::CopyFault;
 use table::Table;

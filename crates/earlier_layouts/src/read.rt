@@ -1,13 +1,12 @@
 //! All that the root of a file names is read.
 ghost use Rattle.std.specs.Prelude.{◌≡◌, ◌≤◌, false, Some, length, IfOk, IfErr, IsTrue};
-ghost use Rattle.sector_disk.specs.Disk.{size, GoesOn, LeavesOnly, MayLeave};
-ghost use Rattle.page_store.specs.aid.Marking.{OnlyMarks};
+ghost use Rattle.page_store.specs.Frames.{IsReadOn, OnlyMarks};
 ghost use Rattle.page_store.specs.Store.{StoreWorks};
 ghost use Rattle.earlier_layouts.specs.Slot.{commits_in, Says, SaysGame};
 ghost use Rattle.earlier_layouts.specs.File.{IsGame, AreGames, IsBacked, kept_of, pages_of};
 ghost use Rattle.earlier_layouts.specs.ReadCauses.{GameReadCause};
 ghost use Rattle.page_store.specs.Pages.{AllWait};
-ghost use Rattle.earlier_layouts.specs.aid.Reading.{IsRead};
+ghost use Rattle.earlier_layouts.specs.lemmas.FileReads.{IsRead};
 
 use crate::bytes::{game_of, length_of};
 use crate::game::{Game, Opened};
@@ -23,15 +22,7 @@ pub fn read_all<P: Pages>(alloc: Global, store: &mut P) -> Result<Opened, PageFa
     ensures commits { IfOk result (λ opened. opened.commits ≡ commits_in (P.store store.old).root) }
     ensures backed { (P.store store.old).closed ≡ false → AllWait (P.store store.old)
         → IfOk result (λ opened. IsBacked (P.store store.new) (pages_of opened.game) (kept_of opened.game)) }
-    ensures goes_on { GoesOn (P.store store.old).disk (P.store store.new).disk }
-    ensures same_size { size (P.store store.new).disk ≡ size (P.store store.old).disk }
-    ensures failures { (P.store store.old).failures ≤ (P.store store.new).failures }
-    ensures root { (P.store store.new).root ≡ (P.store store.old).root }
-    ensures same_pages { length (P.store store.new).marks ≡ length (P.store store.old).marks }
-    ensures shown { IsTrue (P.store store.old).disk.honest → (P.store store.new).disk.now ≡ (P.store store.old).disk.now }
-    ensures leaves { IsTrue (P.store store.old).disk.honest
-        → LeavesOnly (P.store store.old).disk (P.store store.new).disk (MayLeave (P.store store.old).disk.now) }
-    ensures closed { (P.store store.new).closed ≡ (P.store store.old).closed }
+    ensures on { IsReadOn (P.store store.old) (P.store store.new) }
     ensures works { IfErr result (λ _. StoreWorks (P.store store.old) (P.store store.new)) }
     ensures cause { IfErr result (GameReadCause (P.store store.old) (P.store store.new)) }
 {

@@ -4,7 +4,7 @@ ghost use Rattle.rbg_game.specs.Depth.{rules_depth};
 ghost use Rattle.rbg_game.specs.Meaning.{game_of};
 ghost use Rattle.rbg_game.specs.declared.limits.TheConstants.{MAX_NESTING};
 ghost use Rattle.rbg_read.specs.Codes.{fault_code};
-ghost use Rattle.rbg_read.specs.Reading.{Reads, Fault};
+ghost use Rattle.rbg_read.specs.Reads.{Reads, Fault};
 
 use rbg_game::game::Game;
 use rbg_read::fault::GameFault;

@@ -1,2 +1,2 @@
 pub mod Two
-pub mod Lasting
+pub mod Parts

@@ -13,7 +13,7 @@ use game_file::GameFile;
 use rbg_game::goal::Goal;
 use solver::{Command, FileSolver, Reply, SolverFault, Units, Worked};
 
-/// `refused` of `FileSolver::load`, and of that the cause.
+/// `err` of `FileSolver::load`, and of that the cause.
 pub fn load<F: GameFile>(
     solver: &mut FileSolver<F>,
     text: &[u8],
@@ -44,7 +44,7 @@ pub fn work<F: GameFile>(solver: &mut FileSolver<F>, units: Units) -> Result<Wor
     solver.work(units)
 }
 
-/// `refused` of `FileSolver::work`, and of that the cause.
+/// `err` of `FileSolver::work`, and of that the cause.
 pub fn refused_work<F: GameFile>(
     solver: &mut FileSolver<F>,
     asked: Units,
@@ -54,7 +54,7 @@ pub fn refused_work<F: GameFile>(
     solver.work(asked)
 }
 
-/// `full` of `FileSolver::work`.
+/// `err` of `FileSolver::work`, and of that how few pages are free.
 pub fn full_work<F: GameFile>(
     solver: &mut FileSolver<F>,
     wanted: Units,

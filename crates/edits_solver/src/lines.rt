@@ -32,7 +32,7 @@ pub fn asked_last(line: &Line) -> Asked<'_>
     line.asked_last()
 }
 
-/// `replied` of `put_answer`.
+/// `written` of `put_answer`, of an output that does not fail.
 pub fn put_answer<F: GameFile, W: Write, E: Write>(
     alloc: Global,
     solver: &mut FileSolver<F>,

@@ -4,12 +4,12 @@ ghost use Rattle.sector_disk.specs.Disk.{GoesOn};
 ghost use Rattle.solver.specs.Solvers.{state};
 
 use game_file::GameFile;
-use recover::SavedTable;
+use headline::SavedTable;
 use sector_disk::{MemDisk, SectorDisk};
 use solver::{FileSolver, Refused};
 use std::alloc::Global;
 
-/// `opened` of `FileSolver::open`, and of that the disk that it goes on from.
+/// `ok` of `FileSolver::open`, and of that the disk that it goes on from.
 pub fn open_on<F: GameFile<Device = MemDisk>>(
     alloc: Global,
     on: MemDisk,

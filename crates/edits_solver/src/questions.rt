@@ -1,8 +1,8 @@
 //! What is asked of a table.
 ghost use Rattle.std.specs.Prelude.{◌≡◌, ◌<◌, true, IfOk, IfErr, IsErrOf, Ok, IsTrue};
 ghost use Rattle.audit.specs.declared.verdict.Verdict.TheVariants.{Right};
-ghost use Rattle.recover.specs.Brief.{OfTable};
-ghost use Rattle.recover.specs.Tables.{of_number, MayRefuse};
+ghost use Rattle.headline.specs.Brief.{OfTable};
+ghost use Rattle.headline.specs.Tables.{of_number, MayRefuse};
 ghost use Rattle.solver.specs.Audits.{HasVerdict};
 ghost use Rattle.solver.specs.Held.{IsSound};
 ghost use Rattle.solver.specs.Queries.{Tells, HasText};
@@ -11,7 +11,7 @@ ghost use Rattle.solver.specs.Solvers.{state, IsReady};
 use audit::Verdict;
 use best_line::{Row, Value};
 use game_file::GameFile;
-use recover::SavedTable;
+use headline::SavedTable;
 use retrograde::Record;
 use solver::{FileSolver, SolverFault, Units};
 use table::TableFault;
@@ -44,7 +44,7 @@ pub fn found_right<F: GameFile>(found: &mut FileSolver<F>) -> Result<Verdict, So
     found.audit()
 }
 
-/// `closed` of `FileSolver::list`.
+/// `err` of `FileSolver::list`, and of that what a closed solver answers.
 pub fn list<F: GameFile>(
     solver: &mut FileSolver<F>,
     from: u32,

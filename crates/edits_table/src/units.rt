@@ -12,7 +12,7 @@ use retrograde::{Record, State};
 use std::alloc::Global;
 use table::Table;
 
-/// `done` of `expand_one`.
+/// `done` of `worked`, of `expand_one`.
 pub fn expand<M: MoveSource, T: Table>(
     alloc: Global,
     source: &M,
@@ -28,7 +28,7 @@ pub fn expand<M: MoveSource, T: Table>(
     frontier::expand_one(alloc, source, table)
 }
 
-/// `cause` of `expand_one`.
+/// `cause` of `err`, of `expand_one`.
 pub fn refused_expansion<M: MoveSource, T: Table>(
     alloc: Global,
     source: &M,
@@ -43,7 +43,7 @@ pub fn refused_expansion<M: MoveSource, T: Table>(
     frontier::expand_one(alloc, source, asked)
 }
 
-/// `done` of `settle_one`.
+/// `done` of `worked`, of `settle_one`.
 #[tactic(auto, using(crate::proofs::Written::written_back))]
 pub fn process<M: MoveSource, T: Table>(source: &M, table: &mut T) -> Result<u32, StepFault>
     requires source { M.is_sound source.now }

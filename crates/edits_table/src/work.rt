@@ -11,7 +11,7 @@ use legal_moves::MoveSource;
 use std::alloc::Global;
 use table::{Table, TableFault};
 
-/// `done` of `work`.
+/// `done` of `worked`, of `work`.
 pub fn work<M: MoveSource, T: Table>(
     alloc: Global,
     source: &M,
@@ -28,7 +28,7 @@ pub fn work<M: MoveSource, T: Table>(
     game_table::work(alloc, source, table, units)
 }
 
-/// `cause` of `work`.
+/// `cause` of `err`, of `work`.
 pub fn refused_work<M: MoveSource, T: Table>(
     alloc: Global,
     source: &M,

@@ -9,8 +9,8 @@ use Rattle.std.proofs.lemmas.List.{length-replicate, take_all}
 use Rattle.std.proofs.lemmas.List.Elements.{recursion_from_All}
 use Rattle.sector_disk.specs.Disk.{Picture, sector, size, Shown, Disk, MayLeave, GoesOn, Steps, Extends, IsCounted, Keeps, SyncedMore, AllSynced, IsLonger, AreZeros}
 use Rattle.sector_disk.specs.Unknown.{unknown_disk}
-use Rattle.sector_disk.specs.aid.Moments.{one_moment, steps_failed, extends_failed}
-use Rattle.sector_disk.specs.aid.Unknown.{unknown_goes_on, unknown_extends}
+use Rattle.sector_disk.specs.lemmas.Moments.{one_moment, steps_failed, extends_failed}
+use Rattle.sector_disk.specs.lemmas.Unknown.{unknown_goes_on, unknown_extends}
 use Rattle.file_disk.specs.declared.waiting_writes.WaitingWrites.{WaitingWrites}
 use Rattle.file_disk.specs.Buffered.{honest_disk, buffered_disk}
 use Rattle.file_disk.specs.Buffers.{Buffers, Ends, is_calm, buffered_now}
@@ -19,11 +19,11 @@ use Rattle.file_disk.specs.Events.{Happened, had_first, Lengthens, LengthensOnly
 use Rattle.file_disk.specs.Past.{pictured, Standing, stands, stands_after, shown_then}
 use Rattle.file_disk.specs.Shown.{shown, Waits}
 use Rattle.file_disk.specs.Touched.{WritesOnly, WritesAndSyncs}
-use Rattle.file_disk.specs.Waiting.{slot_of}
-use Rattle.file_disk.specs.aid.Narrow.{length-pictured, sector-pictured, past-pictured, calm_is, now_allowed}
-use Rattle.file_disk.proofs.Buffering.{past_kept, stands_on, calm_so, writes_between, writes_still, writes_lasting}
-use Rattle.file_disk.proofs.Buffering.{lengthens_between, lengthens_calm, lengthens_last}
-use Rattle.file_disk.proofs.Noting.{writes_none}
+use Rattle.file_disk.specs.WaitingSectors.{slot_of}
+use Rattle.file_disk.specs.lemmas.Narrow.{length-pictured, sector-pictured, past-pictured, calm_is, now_allowed}
+use Rattle.file_disk.proofs.Buffers.{past_kept, stands_on, calm_so, writes_between, writes_still, writes_lasting}
+use Rattle.file_disk.proofs.Buffers.{lengthens_between, lengthens_calm, lengthens_last}
+use Rattle.file_disk.proofs.Events.{writes_none}
 
 -- ---- over any file
 
@@ -221,7 +221,8 @@ pub tried_keeps : (old new : Buffers) → new.sectors ≡ old.sectors
     → ((k : ℕ) → shown new.waiting new.content k ≡ shown old.waiting old.content k)
     → ((k : ℕ) → Waits new.waiting k → Waits old.waiting k) → SyncedMore (buffered_now old) (buffered_now new)
 tried_keeps old new sectors writes same only = record {
-  contents = ap (pictured (shown new.waiting new.content)) sectors ∙ same-pictured (shown new.waiting new.content) (shown old.waiting old.content) old.sectors same;
+  contents = ap (pictured (shown new.waiting new.content)) sectors
+      ∙ same-pictured (shown new.waiting new.content) (shown old.waiting old.content) old.sectors same;
   synced = λ k calm. still_calm old new sectors writes k (only k) calm;
   lasting = same_lasting old new sectors writes;
 }

@@ -7,8 +7,8 @@ use Rattle.std.proofs.lemmas.List.{get_or_default}
 use Rattle.std.proofs.lemmas.Option.{same_Some}
 use Rattle.file_disk.specs.declared.waiting_page.WaitingPage.{WaitingPage}
 use Rattle.file_disk.specs.Bytes.{sector_of}
-use Rattle.file_disk.specs.Waiting.{no_page, page_at, has_sector, place_of, slot_in, slot_of, given, shown_of}
-use Rattle.file_disk.specs.aid.Waiting.{AreDistinct, AreNoted}
+use Rattle.file_disk.specs.WaitingSectors.{no_page, page_at, has_sector, place_of, slot_in, slot_of, given, shown_of}
+use Rattle.file_disk.specs.lemmas.WaitingSectors.{AreDistinct, AreNoted}
 
 -- a page that has a place is found there
 pub place_found : (pages : List WaitingPage) (count p page : ℕ) → AreDistinct pages count → p < count → (page_at pages p).number ≡ page

@@ -6,7 +6,7 @@ use Rattle.sector_disk.specs.Unknown.{unknown_disk}
 use Rattle.file_disk.specs.Buffers.{Buffers, Ends, buffered_now}
 use Rattle.file_disk.specs.Past.{shown_then}
 use Rattle.file_disk.specs.Shown.{shown}
-use Rattle.file_disk.specs.aid.Narrow.{length-pictured, now_allowed}
+use Rattle.file_disk.specs.lemmas.Narrow.{length-pictured, now_allowed}
 
 -- over an honest file: a moment passes with each thing that happens to the file, and what the disk showed then is what the file did
 abbrev pub honest_disk : (b : Buffers) → Ends b → Disk

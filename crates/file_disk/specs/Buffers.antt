@@ -5,7 +5,7 @@ use Rattle.file_disk.specs.declared.waiting_writes.WaitingWrites.{WaitingWrites}
 use Rattle.file_disk.specs.Events.{Happened}
 use Rattle.file_disk.specs.Past.{pictured, stands}
 use Rattle.file_disk.specs.Shown.{shown}
-use Rattle.file_disk.specs.Waiting.{slot_of}
+use Rattle.file_disk.specs.WaitingSectors.{slot_of}
 
 -- what is stated of the buffers of a file: what waits, what has happened to the file and what it has, and how many sectors they have
 pub record Buffers : Type 0 where

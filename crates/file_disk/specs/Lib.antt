@@ -2,12 +2,12 @@ pub mod Buffered
 pub mod Buffers
 pub mod Bytes
 pub mod Events
-pub mod Failing
+pub mod Failures
 pub mod File
 pub mod InMemory
 pub mod Noted
 pub mod Past
 pub mod Shown
 pub mod Touched
-pub mod Waiting
-pub mod aid
+pub mod WaitingSectors
+pub mod lemmas

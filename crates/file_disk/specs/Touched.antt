@@ -5,7 +5,7 @@ use Rattle.file_disk.specs.declared.file_event.FileEvent.TheVariants.{Wrote, Syn
 use Rattle.file_disk.specs.declared.waiting_writes.WaitingWrites.{WaitingWrites}
 use Rattle.file_disk.specs.Events.{Happened, Adds, IsNoted}
 use Rattle.file_disk.specs.Shown.{Waits}
-use Rattle.file_disk.specs.aid.Waiting.{ShowsSame}
+use Rattle.file_disk.specs.lemmas.WaitingSectors.{ShowsSame}
 
 -- a write of bytes of sectors that wait
 abbrev pub IsWriteOf : WaitingWrites → FileEvent → Type 0

@@ -6,8 +6,8 @@ ghost use Rattle.file_disk.specs.Bytes.{sector_of};
 ghost use Rattle.file_disk.specs.Events.{LengthensOnly};
 ghost use Rattle.file_disk.specs.Shown.{shown, Waits};
 ghost use Rattle.file_disk.specs.Touched.{WritesOnly, WritesAndSyncs};
-ghost use Rattle.file_disk.specs.Waiting.{HasRoom, slot_of};
-ghost use Rattle.file_disk.specs.aid.Waiting.{AreInside, IsCopyOf};
+ghost use Rattle.file_disk.specs.WaitingSectors.{HasRoom, slot_of};
+ghost use Rattle.file_disk.specs.lemmas.WaitingSectors.{AreInside, IsCopyOf};
 
 use crate::byte_file::ByteFile;
 use crate::flush::put_all;

@@ -4,7 +4,7 @@ ghost use Rattle.std.specs.Bool.{OnTrue, OnFalse};
 ghost use Rattle.file_disk.specs.declared.file_event.FileEvent.{FileEvent};
 ghost use Rattle.file_disk.specs.Bytes.{bytes_at, LeavesOthers, KeepsUpTo, IsResized};
 ghost use Rattle.file_disk.specs.Events.{Happened, IsNoted, IsNotedOrNothing};
-ghost use Rattle.file_disk.specs.Failing.{TellsFailure};
+ghost use Rattle.file_disk.specs.Failures.{TellsFailure};
 
 use crate::file_event::FileEvent;
 

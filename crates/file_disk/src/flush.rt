@@ -2,10 +2,10 @@
 ghost use Rattle.std.specs.Prelude.{◌≡◌, ◌+◌, ◌*◌, ◌^◌, ◌-◌, ◌<◌, ◌≤◌, ℕ, Some, length, IsTrue, IfSome, IsSome, is_some};
 ghost use Rattle.std.specs.Bool.{OnTrue, OnFalse};
 ghost use Rattle.file_disk.specs.Bytes.{sector_of};
-ghost use Rattle.file_disk.specs.Failing.{TellsFailure};
+ghost use Rattle.file_disk.specs.Failures.{TellsFailure};
 ghost use Rattle.file_disk.specs.Touched.{WritesOnly};
-ghost use Rattle.file_disk.specs.Waiting.{page_at, slot_of};
-ghost use Rattle.file_disk.specs.aid.Waiting.{AreInside, AreInFile, IsInFile, IsRun, Puts};
+ghost use Rattle.file_disk.specs.WaitingSectors.{page_at, slot_of};
+ghost use Rattle.file_disk.specs.lemmas.WaitingSectors.{AreInside, AreInFile, IsInFile, IsRun, Puts};
 
 use crate::byte_file::ByteFile;
 use crate::waiting_writes::WaitingWrites;

@@ -1,6 +1,6 @@
 //! A file of bytes in memory.
 ghost use Rattle.std.specs.Prelude.{◌≡◌, ◌+◌, ◌≤◌, length, true, false, []};
-ghost use Rattle.file_disk.specs.Failing.{TellsFailure};
+ghost use Rattle.file_disk.specs.Failures.{TellsFailure};
 ghost use Rattle.file_disk.specs.Noted.{noted_in};
 
 use crate::byte_file::ByteFile;

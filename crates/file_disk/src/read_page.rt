@@ -2,7 +2,7 @@
 ghost use Rattle.std.specs.Prelude.{◌≡◌, ◌*◌, ◌/◌, ◌%◌, ◌^◌, ◌<◌, ◌≤◌, None, Some, IsTrue};
 ghost use Rattle.std.specs.Bool.{OnTrue};
 ghost use Rattle.file_disk.specs.Bytes.{sector_of};
-ghost use Rattle.file_disk.specs.aid.Waiting.{IsCopyOf};
+ghost use Rattle.file_disk.specs.lemmas.WaitingSectors.{IsCopyOf};
 
 use crate::byte_file::ByteFile;
 

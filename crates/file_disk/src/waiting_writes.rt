@@ -2,8 +2,8 @@
 ghost use Rattle.std.specs.Prelude.{◌≡◌, ◌≢◌, ◌↔◌, ◌+◌, ◌*◌, ◌/◌, ◌%◌, ◌^◌, ◌<◌, ◌≤◌, ℕ, List, true, length, IfOk, IfSome, IfNone, None};
 ghost use Rattle.std.specs.Bool.{OnTrue, OnFalse};
 ghost use Rattle.file_disk.specs.Bytes.{sector_of, LeavesOthers};
-ghost use Rattle.file_disk.specs.Waiting.{page_at, place_of, slot_of, shown_of, HasRoom};
-ghost use Rattle.file_disk.specs.aid.Waiting.{AreDistinct, ArePlaced, AreInside, AreNoted, IsRun};
+ghost use Rattle.file_disk.specs.WaitingSectors.{page_at, place_of, slot_of, shown_of, HasRoom};
+ghost use Rattle.file_disk.specs.lemmas.WaitingSectors.{AreDistinct, ArePlaced, AreInside, AreNoted, IsRun};
 
 use crate::put_bytes::put_bytes;
 use crate::waiting_page::{WaitingPage, is_whole, set_sector};

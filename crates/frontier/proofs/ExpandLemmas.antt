@@ -16,22 +16,23 @@ use Rattle.retrograde.specs.declared.records.Record.{Record}
 use Rattle.retrograde.specs.Stored.{Stored, IsTable, view_of, is_settled, expanded_count, settled_count}
 use Rattle.retrograde.specs.Sound.{IsLocallySound}
 use Rattle.retrograde.specs.Successors.{packed_cmp, IsSuccessorList}
-use Rattle.retrograde.specs.aid.Expansion.{AreNoted, with_expanded}
+use Rattle.retrograde.specs.lemmas.Expansion.{AreNoted, with_expanded}
 use Rattle.retrograde.specs.Expands.{Expands}
 use Rattle.retrograde.specs.Units.{UnitsOfWork}
 use Rattle.legal_moves.specs.Listed.{ListsExactly}
-use Rattle.retrograde.proofs.Enlarging.{expanded_sound, an_expanded_table_fits}
+use Rattle.retrograde.proofs.SoundExpansion.{expanded_sound, an_expanded_table_fits}
 use Rattle.retrograde.proofs.Expands.{expands}
-use Rattle.retrograde.proofs.Finding.{sorted_of, sorted_none, expanded_works}
+use Rattle.retrograde.proofs.ExpansionUnit.{sorted_of, sorted_none, expanded_works}
 use Rattle.retrograde.proofs.Finished.{draws, reach_is_known, element, none_or_some, is_some_at}
-use Rattle.retrograde.proofs.Noting.{Grew, are_noted_grew, unsettled}
-use Rattle.retrograde.proofs.Settling.{count_less}
+use Rattle.retrograde.proofs.AdditionFrame.{Grew, are_noted_grew, unsettled}
+use Rattle.retrograde.proofs.ProcessSteps.{count_less}
 use Rattle.retrograde.proofs.Sound.{sound_right}
 use Rattle.frontier.specs.Done.{IsUnitDone}
 use Rattle.frontier.proofs.DoneLemmas.{unit_done}
 
 -- the table with the number e expanded is that with the next number expanded, as the lemmas say it
-as_expanded : (graph : Graph (List ℕ)) (old new next : Stored (List ℕ)) (x : List ℕ) (ys : List (List ℕ)) (e n : ℕ) (ahead : Option Player) → e ≡ expanded_count old
+as_expanded : (graph : Graph (List ℕ)) (old new next : Stored (List ℕ)) (x : List ℕ) (ys : List (List ℕ)) (e n : ℕ) (ahead : Option Player)
+    → e ≡ expanded_count old
     → n ≡ length ys → ahead ≡ graph.ahead x → new ≡ with_expanded e n ahead next → new ≡ with_expanded (expanded_count old) (length ys) (graph.ahead x) next
 as_expanded graph old new next x ys e n ahead e_is n_is ahead_is is =
     is
@@ -86,7 +87,8 @@ module _ (graph : Graph (List ℕ)) (IsWide : List ℕ → Type 0) (old new : St
     λ x reach.
         let (i, number) = reach_is_known graph (view_of new) right finished x reach in
         let unsettled' : (view_of new).value i ≡ None =
-        ⊎_elim (λ is. is) (λ (value, is). absurd (none_settled sound none i (is_some_at ((view_of new).value i) value is))) (none_or_some ((view_of new).value i)) in
+        ⊎_elim (λ is. is) (λ (value, is). absurd (none_settled sound none i (is_some_at ((view_of new).value i) value is)))
+        (none_or_some ((view_of new).value i)) in
         (draws graph (view_of new) right finished i x number).0 unsettled',
   )
     where
@@ -97,13 +99,15 @@ module _ (graph : Graph (List ℕ)) (IsWide : List ℕ → Type 0) (old new : St
       right = sound_right graph IsWide new sound
 
   pub done : IsLocallySound graph IsWide old → (x : List ℕ) (ys : List (List ℕ)) (next : Stored (List ℕ)) (e n : ℕ) (ahead : Option Player)
-      → e ≡ expanded_count old → slice_get old.positions e ≡ Option.Some x → IsSuccessorList packed_cmp graph x ys → (graph.mover x ≡ Role.Keeper → length ys ≤ 1)
+      → e ≡ expanded_count old → slice_get old.positions e ≡ Option.Some x → IsSuccessorList packed_cmp graph x ys
+      → (graph.mover x ≡ Role.Keeper → length ys ≤ 1)
       → (IsWide x → ⊥) → AreNoted e ys old next → n ≡ length ys → ahead ≡ graph.ahead x → new ≡ with_expanded e n ahead next → length new.positions ≤ 2 ^ 24
       → IsDone
   done sound x ys next e n ahead e_is number list forced narrow noted n_is ahead_is is room =
       let number' = subst (λ (k : ℕ). slice_get old.positions k ≡ Option.Some x) e_is number in
       let noted' = subst (λ (k : ℕ). AreNoted k ys old next) e_is noted in
-      let is' : new ≡ with_expanded (expanded_count old) (length ys) (graph.ahead x) next = as_expanded graph old new next x ys e n ahead e_is n_is ahead_is is in
+      let is' : new ≡ with_expanded (expanded_count old) (length ys)
+      (graph.ahead x) next = as_expanded graph old new next x ys e n ahead e_is n_is ahead_is is in
       let back = sym is' in
       let now_sound : IsLocallySound graph IsWide new =
       subst (λ (t : Stored (List ℕ)). IsLocallySound graph IsWide t) back
@@ -123,15 +127,18 @@ module _ (graph : Graph (List ℕ)) (IsWide : List ℕ → Type 0) (old new : St
       }
 
 -- while a position waits, the settled order has room
-pub room : (graph : Graph (List ℕ)) (IsWide : List ℕ → Type 0) (stored : Stored (List ℕ)) → IsLocallySound graph IsWide stored → (ys : List (List ℕ)) (next : Stored (List ℕ)) (e : ℕ)
+pub room : (graph : Graph (List ℕ)) (IsWide : List ℕ → Type 0) (stored : Stored (List ℕ)) → IsLocallySound graph IsWide stored
+    → (ys : List (List ℕ)) (next : Stored (List ℕ)) (e : ℕ)
     → AreNoted e ys stored next → expanded_count stored < length stored.positions → length next.order < length next.positions
 room graph IsWide stored sound ys next e noted waiting =
     let same : length stored.records ≡ length stored.positions = sound.table.records in
     let within : expanded_count stored < length stored.records = omega arith in
     let (r, has) = element stored.records (expanded_count stored) within in
     let fresh : is_settled r.state ≡ false =
-    unsettled r.state (λ is. let lt : expanded_count stored < expanded_count stored = (sound.table.expanded (expanded_count stored) r has).0 is in omega arith) in
-    let less : settled_count stored < length stored.records = count_less (λ (q : Record). is_settled q.state) stored.records (expanded_count stored) r has fresh in
+    unsettled r.state (λ is. let lt : expanded_count stored < expanded_count stored =
+    (sound.table.expanded (expanded_count stored) r has).0 is in omega arith) in
+    let less : settled_count stored < length stored.records = count_less (λ (q : Record). is_settled q.state) stored.records
+    (expanded_count stored) r has fresh in
     let counted : length stored.order ≡ settled_count stored = sound.table.counted in
     let grew : Grew e stored next = are_noted_grew e ys stored next noted in
     let kept : length next.order ≡ length stored.order = ap (λ (xs : List ℕ). length xs) grew.order in

@@ -6,7 +6,7 @@ use Rattle.table.specs.declared.fault.TableFault.{TableFault}
 use Rattle.frontier.specs.declared.fault.StepFault.{StepFault}
 use Rattle.frontier.specs.declared.fault.StepFault.TheVariants.{Inconsistent, OutOfMemory, Table}
 use Rattle.frontier.specs.Frames.{IsGrown, IsGivenUp}
-use Rattle.frontier.proofs.Passing.{leaves_after}
+use Rattle.frontier.proofs.Exits.{leaves_after}
 
 module _ {T : Type 0} {IsHonest : T → Type 0} {counted : T → Counts} {GoesOn : T → T → Type 0} where
   -- a call that adds no position

@@ -1,9 +1,9 @@
 pub mod NumberLemmas
 pub mod NotedLemmas
 pub mod Counted
-pub mod Passing
-pub mod Faults
+pub mod Exits
 pub mod DoneLemmas
 pub mod ExpandLemmas
 pub mod Pages
 pub mod Frames
+pub mod Units

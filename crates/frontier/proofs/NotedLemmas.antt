@@ -5,7 +5,7 @@ use Rattle.std.specs.Cmp.{IsTotalOrder}
 use Rattle.std.proofs.lemmas.List.{drop_more, get_or-map, length-map, map_more, take-map}
 use Rattle.retrograde.specs.Stored.{Stored}
 use Rattle.retrograde.specs.Changes.{with_position, with_edge}
-use Rattle.retrograde.specs.aid.Expansion.{IsNoted, AreNoted}
+use Rattle.retrograde.specs.lemmas.Expansion.{IsNoted, AreNoted}
 use Rattle.frontier.proofs.NumberLemmas.{IsReady, ready_next, still_unknown}
 
 noted_push : {P : Type 0} (e : ℕ) (ys : List P) (y : P) (a b c : Stored P) → AreNoted e ys a b → IsNoted e y b c → AreNoted e (ys ++ y ∷ []) a c
@@ -47,7 +47,8 @@ module _ {A P : Type 0} (f : A → P) (items : List A) (i : ℕ) (x : A) (within
         let (first, rest) =
         ready_next cmp laws base e (f x) (drop (i + 1) (map f items)) (get_or numbers i 0) (drop (i + 1) numbers) now here new
         (λ within'. known (omega arith))
-        (λ past. let past' : k ≤ get_or numbers i 0 = omega arith in subst (λ (n : ℕ). new ≡ with_edge (with_position now (f x)) n e) counted (added past')) in (
+        (λ past. let past' : k ≤ get_or numbers i 0 = omega arith in
+        subst (λ (n : ℕ). new ≡ with_edge (with_position now (f x)) n e) counted (added past')) in (
           subst (λ (ys : List P). AreNoted e ys old new) (sym take_at) (noted_push e (take i (map f items)) (f x) old now new before first),
           rest,
         )

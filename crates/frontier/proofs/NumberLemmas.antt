@@ -16,11 +16,11 @@ use Rattle.retrograde.specs.Graph.{Graph}
 use Rattle.retrograde.specs.Stored.{Stored}
 use Rattle.retrograde.specs.Successors.{IsSuccessorList}
 use Rattle.retrograde.specs.Changes.{with_position, with_edge}
-use Rattle.retrograde.specs.aid.Expansion.{IsNoted, AreNoted}
+use Rattle.retrograde.specs.lemmas.Expansion.{IsNoted, AreNoted}
 use Rattle.retrograde.specs.Expands.{IsTooMany}
-use Rattle.retrograde.proofs.Adding.{push_before, push_cases, is_first, is_later}
-use Rattle.retrograde.proofs.Finding.{finds}
-use Rattle.frontier.specs.aid.Numbering.{AreNumbersOf}
+use Rattle.retrograde.proofs.Additions.{push_before, push_cases, is_first, is_later}
+use Rattle.retrograde.proofs.ExpansionUnit.{finds}
+use Rattle.frontier.specs.lemmas.GivenNumbers.{AreNumbersOf}
 
 -- y has the number i, or the next one
 abbrev pub IsNumberOf : {P : Type 0} → List P → ℕ → P → ℕ → Type 0
@@ -57,7 +57,8 @@ numbers_push known [] [] k n y i n' past same (inr (is, new)) (inl (less, next))
 numbers_push known [] [] k n y i n' past same (inr (is, new)) (inr (_, next)) = inr (is ∙ sym same, new, ap (λ (m : ℕ). suc m) same ∙ sym next)
 numbers_push known [] (j ∷ numbers) k n y i n' past none is next = absurd none
 numbers_push known (z ∷ ys) [] k n y i n' past none is next = absurd none
-numbers_push known (z ∷ ys) (j ∷ numbers) k n y i n' past (inl (within, at, rest)) is next = inl (within, at, numbers_push known ys numbers k n y i n' past rest is next)
+numbers_push known (z ∷ ys) (j ∷ numbers) k n y i n' past (inl (within, at, rest)) is next = inl
+    (within, at, numbers_push known ys numbers k n y i n' past rest is next)
 numbers_push known (z ∷ ys) (j ∷ numbers) k n y i n' past (inr (same, new, rest)) is next =
     inr (same, new, numbers_push known ys numbers (suc k) n y i n' (omega arith) rest is next)
 
@@ -115,7 +116,8 @@ module _ {P : Type 0} (cmp : P → P → Ordering) (laws : IsTotalOrder cmp) (ba
           go (inr (same, fresh, rest)) =
               let past : length now.positions ≤ i = omega arith in
               let is : new ≡ with_edge (with_position now y) (length now.positions) e = added past in
-              let longer : suc (length now.positions) ≡ length (now.positions ++ y ∷ []) = let p : length (now.positions ++ y ∷ []) ≡ length now.positions + 1 = length_push now.positions y in omega arith in
+              let longer : suc (length now.positions) ≡ length (now.positions ++ y ∷ []) = let p : length
+              (now.positions ++ y ∷ []) ≡ length now.positions + 1 = length_push now.positions y in omega arith in
               let waits : IsReady ys numbers (with_edge (with_position now y) (length now.positions) e) = record {
                 next = ready.next;
                 are = subst (λ (k : ℕ). AreNumbersOf base k ys numbers ready.next) longer rest;
@@ -141,13 +143,15 @@ module _ {P : Type 0} (cmp : P → P → Ordering) (laws : IsTotalOrder cmp) (ba
       (new, (with_edge now i e, first, more), count)
   noted (y ∷ ys) (i ∷ numbers) now n (inr (same, fresh, rest)) ready =
       let step = with_edge (with_position now y) (length now.positions) e in
-      let longer : suc (length now.positions) ≡ length (now.positions ++ y ∷ []) = let p : length (now.positions ++ y ∷ []) ≡ length now.positions + 1 = length_push now.positions y in omega arith in
+      let longer : suc (length now.positions) ≡ length (now.positions ++ y ∷ []) = let p : length
+      (now.positions ++ y ∷ []) ≡ length now.positions + 1 = length_push now.positions y in omega arith in
       let (first, ready') = ready_next y ys i numbers now ready step (λ within. absurd (omega arith)) (λ _. refl) in
       let (new, more, count) = noted ys numbers step n (subst (λ (k : ℕ). AreNumbersOf base k ys numbers n) longer rest) ready' in
       (new, (step, first, more), count)
 
   -- how many would be known
-  pub too_many : (graph : Graph P) (x : P) (ys : List P) (numbers : List ℕ) (n limit : ℕ) (now : Stored P) → now.positions ≡ base → IsSuccessorList cmp graph x ys
+  pub too_many : (graph : Graph P) (x : P) (ys : List P) (numbers : List ℕ) (n limit : ℕ) (now : Stored P) → now.positions ≡ base
+      → IsSuccessorList cmp graph x ys
       → AreNumbersOf base (length base) ys numbers n → limit < n → IsTooMany cmp graph limit base x
   too_many graph x ys numbers n limit now same list are over =
       let are' = subst (λ (ks : List P). AreNumbersOf base (length ks) ys numbers n) (sym same) are in

@@ -12,4 +12,5 @@ pub mod Causes
 pub mod Done
 pub mod Entries
 pub mod Frames
-pub mod aid
+pub mod Units
+pub mod lemmas

@@ -1,23 +1,11 @@
 //! One position is expanded.
-ghost use Rattle.std.specs.Prelude.{◌≡◌, ◌⊎◌, ◌+◌, ◌*◌, ◌^◌, ◌<◌, ◌≤◌, ℕ, List, [], true, false};
-ghost use Rattle.std.specs.Prelude.{map, vec_len, IsOk, IfOk, OnOk, IfErr, Err, None, length};
+ghost use Rattle.std.specs.Prelude.{◌≡◌, ◌⊎◌, ◌^◌, ◌<◌, ◌≤◌, true, false};
+ghost use Rattle.std.specs.Prelude.{map, vec_len, IsOk, IfOk, OnOk, IfErr, Err};
 ghost use Rattle.rbg_game.specs.declared.roles.Role.{Role};
 ghost use Rattle.legal_moves.specs.Listed.{ListsExactly};
-ghost use Rattle.retrograde.specs.Graph.{IsReachable};
-ghost use Rattle.retrograde.specs.Values.{Drawn};
-ghost use Rattle.retrograde.specs.View.{IsFinished};
-ghost use Rattle.retrograde.specs.Stored.{IsTable, view_of, expanded_count};
-ghost use Rattle.retrograde.specs.Sound.{IsLocallySound};
-ghost use Rattle.retrograde.specs.Successors.{packed_cmp};
-ghost use Rattle.retrograde.specs.Expands.{Expands};
-ghost use Rattle.table.specs.declared.fault.TableFault.{TableFault};
-ghost use Rattle.table.specs.declared.limits.TheConstants.{PAGES_PER_ENTRY};
-ghost use Rattle.frontier.specs.Causes.{HasUnitCause, IsRefusal, Leaves};
-ghost use Rattle.frontier.specs.Done.{IsUnitDone};
-ghost use Rattle.frontier.specs.Entries.{WritesAtMost};
 ghost use Rattle.frontier.specs.Frames.{IsGrown};
-ghost use Rattle.frontier.specs.declared.fault.StepFault.{StepFault};
-ghost use Rattle.frontier.specs.declared.fault.StepFault.TheVariants.{TooWide, Inconsistent, OutOfMemory};
+ghost use Rattle.frontier.specs.Units.{HasWorked, HasExpanded, HasStopped};
+ghost use Rattle.frontier.specs.declared.fault.StepFault.TheVariants.{TooWide, OutOfMemory};
 
 use crate::fault::StepFault;
 use crate::finish::finish;
@@ -75,31 +63,13 @@ pub fn expand_one<M: MoveSource, T: Table>(
     requires source { M.is_sound source.now }
     requires waiting { (T.counted table.old).expanded < (T.counted table.old).known }
     requires limit { (T.counted table.old).known ≤ 2 ^ 24 }
-    ensures room { OnOk result ((T.counted table.new).known ≤ 2 ^ 24) }
-    ensures expands { T.is_honest table.old → IsLocallySound (M.graph source.now) (M.is_wide source.now) (T.stored table.old)
-        → OnOk result ((x : List ℕ) × (ys : List (List ℕ))
-        × Expands packed_cmp (M.graph source.now) (T.stored table.old) (T.stored table.new) x ys) }
-    ensures fits { T.is_honest table.old → IsTable (T.stored table.old) → OnOk result (IsTable (T.stored table.new)) }
-    ensures more { T.is_honest table.old → IfOk result (λ more.
-        length (T.stored table.new).positions ≡ length (T.stored table.old).positions + more) }
-    ensures done { T.is_honest table.old → IsLocallySound (M.graph source.now) (M.is_wide source.now) (T.stored table.old)
-        → OnOk result (IsUnitDone (M.graph source.now) (M.is_wide source.now) (T.stored table.old) (T.stored table.new)) }
-    ensures last { T.is_honest table.old → IsLocallySound (M.graph source.now) (M.is_wide source.now) (T.stored table.old)
-        → OnOk result (expanded_count (T.stored table.new) ≡ length (T.stored table.new).positions → (T.stored table.new).order ≡ []
-        → IsFinished (view_of (T.stored table.new)) × ((x : List ℕ) → IsReachable (M.graph source.now) x → Drawn (M.graph source.now) x)) }
-    ensures cause { T.is_honest table.old → IfErr result (HasUnitCause (M.graph source.now) (M.is_wide source.now) (T.stored table.old)) }
-    ensures unchanged { T.is_honest table.old → IfErr result (λ fault. IsRefusal fault
-        → T.is_honest table.new × (T.stored table.new ≡ T.stored table.old)) }
-    ensures consistent { T.is_honest table.old → IsLocallySound (M.graph source.now) (M.is_wide source.now) (T.stored table.old)
-        → result ≡ Err Inconsistent → ⊥ }
+    ensures expanded { T.is_honest table.old → IfOk result
+        (HasExpanded (M.graph source.now) (M.is_wide source.now) (T.stored table.old) (T.stored table.new)) }
+    ensures worked { T.is_honest table.old → OnOk result (HasWorked (M.graph source.now) (M.is_wide source.now)
+        (T.stored table.old) (T.stored table.new) (T.free table.old) (T.free table.new)) }
     ensures ok { OnOk result (IsGrown T.is_honest T.counted T.goes_on table.old table.new) }
-    ensures left { IfErr result (Leaves (T.goes_on table.old table.new) (T.fails table.old table.new)) }
-    ensures takes { T.is_honest table.old → OnOk result ((entries : ℕ)
-        × WritesAtMost (M.graph source.now) (T.stored table.old) entries
-        × (T.free table.old ≤ T.free table.new + PAGES_PER_ENTRY * entries)) }
-    ensures full { T.is_honest table.old → result ≡ Err (StepFault.Table TableFault.TableFull) → (entries : ℕ)
-        × WritesAtMost (M.graph source.now) (T.stored table.old) entries
-        × (T.free table.old ≤ PAGES_PER_ENTRY * entries) }
+    ensures err { IfErr result (HasStopped (M.graph source.now) (M.is_wide source.now) T.stored T.is_honest T.free
+        T.goes_on T.fails table.old table.new) }
 {
     let before = table.counts();
     let number = before.expanded;

@@ -1,6 +1,6 @@
 //! The record of an expanded position.
 ghost use Rattle.std.specs.Prelude.{◌≡◌, ◌+◌, ◌*◌, ◌<◌, ◌≤◌, OnOk, IfErr, Err, Some, length};
-ghost use Rattle.retrograde.specs.aid.Expansion.{with_ended, with_expanded};
+ghost use Rattle.retrograde.specs.lemmas.Expansion.{with_ended, with_expanded};
 ghost use Rattle.table.specs.Frames.{IsWritten};
 ghost use Rattle.table.specs.declared.limits.TheConstants.{PAGES_PER_ENTRY};
 ghost use Rattle.frontier.specs.Frames.{IsGivenUp};

@@ -5,11 +5,11 @@ ghost use Rattle.std.specs.List.Sorted.{IsStrictlySortedBy};
 ghost use Rattle.table.specs.Memory.{bytes_of_each};
 ghost use Rattle.table.specs.declared.limits.TheConstants.{PAGES_PER_ENTRY};
 ghost use Rattle.retrograde.specs.Changes.{with_position, with_edge};
-ghost use Rattle.retrograde.specs.aid.Expansion.{AreNoted};
+ghost use Rattle.retrograde.specs.lemmas.Expansion.{AreNoted};
 ghost use Rattle.retrograde.specs.Successors.{packed_cmp};
 ghost use Rattle.frontier.specs.Frames.{IsGrown, IsGivenUp};
 ghost use Rattle.frontier.specs.declared.fault.StepFault.TheVariants.{Inconsistent};
-ghost use Rattle.frontier.specs.aid.Numbering.{AreNumbersOf};
+ghost use Rattle.frontier.specs.lemmas.GivenNumbers.{AreNumbersOf};
 
 use crate::fault::StepFault;
 use position_pack::Packed;
@@ -26,10 +26,12 @@ fn note<T: Table>(
     requires limit { number < 2 ^ 24 }
     requires unknown { T.is_honest table.old → (T.counted table.old).known ≤ number
         → (j : ℕ) → slice_get (T.stored table.old).positions j ≡ Some successor.now.items → ⊥ }
-    ensures known { T.is_honest table.old → OnOk result (number < (T.counted table.old).known
-        → T.stored table.new ≡ with_edge (T.stored table.old) number predecessor) }
-    ensures added { T.is_honest table.old → OnOk result ((T.counted table.old).known ≤ number
-        → T.stored table.new ≡ with_edge (with_position (T.stored table.old) successor.now.items) (T.counted table.old).known predecessor) }
+    ensures noted { T.is_honest table.old → OnOk result
+        ((number < (T.counted table.old).known
+        → T.stored table.new ≡ with_edge (T.stored table.old) number predecessor)
+        × ((T.counted table.old).known ≤ number
+        → T.stored table.new ≡ with_edge (with_position (T.stored table.old) successor.now.items)
+        (T.counted table.old).known predecessor)) }
     ensures consistent { result ≡ Err Inconsistent → ⊥ }
     ensures ok { OnOk result (IsGrown T.is_honest T.counted T.goes_on table.old table.new) }
     ensures err { IfErr result (IsGivenUp T.goes_on T.fails table.old table.new) }

@@ -1,11 +1,11 @@
 //! The numbers of the successors.
-ghost use Rattle.std.specs.Prelude.{◌≡◌, ◌+◌, ◌^◌, ◌<◌, ◌≤◌, ◌⊎◌, ℕ, suc, All, IfOk, IfErr, Err};
+ghost use Rattle.std.specs.Prelude.{◌≡◌, ◌^◌, ◌<◌, ◌≤◌, ◌⊎◌, ℕ, IfOk, IfErr, Err};
 ghost use Rattle.std.specs.Prelude.{length, slice_get, Some};
 ghost use Rattle.table.specs.Frames.{IsRead};
 ghost use Rattle.table.specs.Memory.{bytes_of_each};
 ghost use Rattle.frontier.specs.Frames.{IsGivenUp};
 ghost use Rattle.frontier.specs.declared.fault.StepFault.TheVariants.{Inconsistent};
-ghost use Rattle.frontier.specs.aid.Numbering.{AreNumbersOf};
+ghost use Rattle.frontier.specs.lemmas.GivenNumbers.{AreGiven, AreNumbersOf};
 
 use crate::fault::StepFault;
 use position_pack::Packed;
@@ -45,9 +45,8 @@ pub fn numbers_of<T: Table>(
     ensures numbers { T.is_honest table.old → IfOk result (λ numbers.
         AreNumbersOf (T.stored table.old).positions (length (T.stored table.old).positions) (bytes_of_each positions.now)
         numbers.each.items numbers.next) }
-    ensures lengths { IfOk result (λ numbers. length numbers.each.items ≡ length positions.now) }
-    ensures within { IfOk result (λ numbers. All (λ i. i < numbers.next) numbers.each.items) }
-    ensures next { IfOk result (λ numbers. (T.counted table.old).known ≤ numbers.next) }
+    ensures given { IfOk result (λ numbers.
+        AreGiven (length positions.now) (T.counted table.old).known numbers.each.items numbers.next) }
     ensures consistent { result ≡ Err Inconsistent → ⊥ }
     ensures read { IsRead T.stored T.is_honest T.counted T.stays table.old table.new }
     ensures err { IfErr result (IsGivenUp T.goes_on T.fails table.old table.new) }

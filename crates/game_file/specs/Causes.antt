@@ -3,7 +3,7 @@ use Rattle.std.specs.Prelude.{◌≡◌, ◌<◌, ℕ, true, List, length, Optio
 use Rattle.sector_disk.specs.Disk.{Disk, size, Grew}
 use Rattle.root_pair.specs.Root.{Begins, IsTablePicture}
 use Rattle.retrograde.specs.Stored.{Stored}
-use Rattle.table.specs.Fitting.{FitsTogether}
+use Rattle.table.specs.Fit.{FitsTogether}
 use Rattle.table.specs.declared.fault.TableFault.{TableFault}
 use Rattle.table.specs.declared.fault.TableFault.TheVariants as table
 use Rattle.game_file.specs.Kept.{Kept, Layout, Older}
@@ -70,7 +70,7 @@ FileVersionCause old new table.TableFull = ⊥
 FileVersionCause old new table.OutOfMemory = ⊥
 FileVersionCause old new table.Closed = old.closed ≡ true
 
--- the same whichever version it is: E1 only where the disk failed, E9 only where the file is closed, and neither E7 nor E8
+-- why a version is not read, whichever it is: E1 only where the disk failed, E9 only where the file is closed, and neither E7 nor E8
 abbrev pub FileReadFault : State → State → TableFault → Type 0
 FileReadFault old new table.Disk = Grew old.failures new.failures
 FileReadFault old new table.Damaged = Unit {0}

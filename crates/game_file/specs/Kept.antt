@@ -41,7 +41,7 @@ counts_kept (Some kept) = Some (counts_of kept.table)
 abbrev pub Layout : Type 1
 Layout = Picture → Option Kept → Type 0
 
--- the same in any number of pages
+-- the picture stores this in some number of pages
 abbrev pub in_any : (ℕ → Layout) → Layout
 in_any Stores picture kept = (pages : ℕ) × Stores pages picture kept
 

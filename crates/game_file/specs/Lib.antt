@@ -10,5 +10,5 @@ pub mod Stops
 pub mod Faults
 pub mod Causes
 pub mod Calls
-pub mod Growing
-pub mod aid
+pub mod Growth
+pub mod lemmas

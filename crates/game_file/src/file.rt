@@ -7,7 +7,7 @@ ghost use Rattle.retrograde.specs.Stored.{IsTable, loaded};
 ghost use Rattle.table.specs.declared.fault.TableFault.{TableFault};
 ghost use Rattle.game_file.specs.Kept.{Kept, Layout, Older, goal_kept, in_any, kept_as, packing_kept, text_kept};
 ghost use Rattle.game_file.specs.State.{State, GoesAhead};
-ghost use Rattle.game_file.specs.Growing.{GrowsAhead, IsNoGrowth, IsGrownFile, IsNotGrown, FileGrowCause};
+ghost use Rattle.game_file.specs.Growth.{GrowsAhead, IsNoGrowth, IsGrownFile, IsNotGrown, FileGrowCause};
 ghost use Rattle.game_file.specs.Stops.{LeavesNow};
 ghost use Rattle.game_file.specs.Calls.{IsOpenedFile, IsNotOpened, IsCreatedFile, IsNotCreated, IsPut, IsNotPut, IsNothingPut, IsAsked};
 ghost use Rattle.game_file.specs.Causes.{FileOpenCause, FileCreateCause, FileLoadCause, FileCommitCause, FileTableCause};
@@ -216,7 +216,7 @@ pub trait GameFile: Table {
     /// What the table's calls leave is a later state of the same file.
     ghost goes_ahead: { (old new : Self) → Self.goes_on old new → GoesAhead (state old) (state new) };
 
-    /// So is what is left after a fault.
+    /// What is left after a fault is a later state of the same file, too.
     ghost fails_ahead: { (old new : Self) (fault : TableFault) → Self.fails old new fault → GoesAhead (state old) (state new) };
 
     /// A fault of the table has its cause.
@@ -229,7 +229,7 @@ pub trait GameFile: Table {
     /// The table's calls keep what is kept of an earlier commit.
     ghost goes_on_lasts: { (old new : Self) → Self.goes_on old new → lasts old new };
 
-    /// So they do where one is not answered.
+    /// A call of the table that is not answered keeps what is kept of an earlier commit.
     ghost fails_lasts: { (old new : Self) (fault : TableFault) → Self.fails old new fault → lasts old new };
 
     /// The page of the root is never free.

@@ -1,3 +1,3 @@
 pub mod WorkLemmas
 pub mod Packed
-pub mod Showing
+pub mod PositionText

@@ -1,7 +1,7 @@
 -- Units of work, one after another.
-use Rattle.std.proofs.Common.{◌≡◌, refl, sym, ◌∙◌, ◌^◌, ◌<◌, ◌≤◌, ◌+◌, ℕ, suc, ap, subst, List, length, arith}
+use Rattle.std.proofs.Common.{◌≡◌, refl, ◌^◌, ◌<◌, ◌≤◌, ◌+◌, ℕ, suc, ap, subst, List, length, arith}
 use Rattle.std.specs.Prelude.{Result, Ok, Err, OnErr}
-use Rattle.std.specs.Result.{IsErr, IsErrAnd}
+use Rattle.std.proofs.lemmas.Option.{slice_get_within}
 use Rattle.retrograde.specs.declared.records.Counts.{Counts}
 use Rattle.retrograde.specs.Changes.{counts_of}
 use Rattle.retrograde.specs.Graph.{Graph}
@@ -38,11 +38,6 @@ one_write_more graph IsWide old mid new n before last write sound unit writes =
     let next : suc n ≡ n + 1 = omega arith in
     subst (λ (k : ℕ). WriteAtMost graph IsWide old k new (before + last)) next (mid, before, last, write, sound, unit, writes, refl)
 
--- the fault that a `?` passes on is the one that is answered
-pub fault_was : {X E : Type 0} (r : Result X E) (fault told : E) → IsErr r × IsErrAnd r (λ f. f ≡ fault) → r ≡ Err told → fault ≡ told
-fault_was (Ok x) fault told is same = absurd is.1
-fault_was (Err f) fault told is same = let here : f ≡ told = cc in sym is.1 ∙ here
-
 -- ---- a table that is refused a unit is not finished
 
 -- what is so is so of any answer
@@ -73,3 +68,17 @@ module _ (stored : Stored (List ℕ)) (counts : Counts) (are : counts ≡ counts
       let below : processed_count stored < processed_count stored =
       (table.processed (processed_count stored) i at).0 (finished.all_processed i (table.settled (processed_count stored) i at)) in
       omega (arith, below)
+
+  -- it is, where all that is known is expanded, and all that is settled is processed
+  pub is_finished : IsTable stored → counts.known ≤ counts.expanded → counts.expanded ≤ counts.known → counts.settled ≤ counts.processed
+      → IsFinished (view_of stored)
+  is_finished table all no_more done =
+      let processed : counts.processed ≡ processed_count stored = ap (λ (k : Counts). k.processed) are in
+      let settled : counts.settled ≡ length stored.order = ap (λ (k : Counts). k.settled) are in
+      record {
+        all_expanded = omega (arith, all, no_more, expanded_are, known_are);
+        all_processed = λ i some.
+            let (k, at) = table.listed i some in
+            let within : k < length stored.order = slice_get_within stored.order k i at in
+            (table.processed k i at).1 (omega (arith, within, done, processed, settled));
+      }

@@ -1,6 +1,6 @@
 //! Whether what a table stores are positions.
 ghost use Rattle.std.specs.Prelude.{◌≡◌, ◌↔◌, true, IfOk, IfErr};
-ghost use Rattle.game_table.specs.aid.Tables.{IsPackedBytes, ArePacked};
+ghost use Rattle.game_table.specs.lemmas.Tables.{IsPackedBytes, ArePacked};
 ghost use Rattle.table.specs.Faults.{NeedsNoPage};
 ghost use Rattle.table.specs.Frames.{IsRead};
 

@@ -4,7 +4,7 @@ ghost use Rattle.rbg_game.specs.Games.{Game as TextbookGame};
 ghost use Rattle.rbg_game.specs.Meaning.{game_of};
 ghost use Rattle.rbg_game.specs.Names.{HasProperNames};
 ghost use Rattle.rbg_game.specs.Positions.{IsPositionOf};
-ghost use Rattle.rbg_read.specs.Reading.{Reads, Fault};
+ghost use Rattle.rbg_read.specs.Reads.{Reads, Fault};
 ghost use Rattle.legal_moves.specs.Moves.{start_of};
 ghost use Rattle.legal_moves.specs.Sources.{IsPositionBytes, IsWideAt, graph_of};
 ghost use Rattle.legal_moves.specs.Compiled.{compiled_game, packing_kind, compiled_goal};

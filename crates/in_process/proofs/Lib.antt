@@ -1,4 +1,4 @@
-mod Answering
+mod Answered
 mod InRooms
 mod Loosened
-mod Opening
+mod Rooms

@@ -37,7 +37,7 @@ pub data IsAnswered (Does : Disk → ℕ → Came → Disk → ℕ → Type 0) (
       → count ≡ length line → told ≡ out → after ≡ before → IsAnswered Does disk before after out told count 6
   no_memory : count ≡ 0 → told ≡ out → after ≡ before → IsAnswered Does disk before after out told count 5
 
--- the same on the disk that has these bytes, for which memory may run out too
+-- a call that is given the bytes of a disk is answered as on that disk, or memory ran out for it
 pub data IsCalled (Does : Disk → ℕ → Came → Disk → ℕ → Type 0) (bytes before after out told : List ℕ) (count status : ℕ) : Type 0 where
   called : (disk : Disk) → IsDiskOf bytes disk → IsAnswered Does disk before after out told count status
       → IsCalled Does bytes before after out told count status

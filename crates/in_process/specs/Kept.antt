@@ -4,7 +4,7 @@ use Rattle.sector_disk.specs.Disk.{Disk}
 use Rattle.game_file.specs.Kept.{Layout}
 use Rattle.game_file.specs.State.{State}
 use Rattle.session.specs.Commands.{GivesBack, IsUnopened}
-use Rattle.solver.specs.Opening.{IsOpened}
+use Rattle.solver.specs.Opened.{IsOpened}
 use Rattle.solver.specs.Solvers.{state, IsReady}
 use Rattle.solver.specs.declared.fault.SolverFault.{SolverFault}
 use Rattle.byte_disk.specs.InMemory.{disk_in}

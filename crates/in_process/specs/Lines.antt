@@ -60,7 +60,7 @@ module _ {F Version : Type 0} (Stores : ℕ → Layout) (state : F → State) (I
     unopened : (why : SolverFault) → IsKeptUnopened Stores why was is → IsPrinted (Some before) (Some after) (refused why) status
         → IsAnsweredOn manner lines was is before after status
 
-  -- the same of a held table on which lines can be answered, and then again; and how many bytes of answers wait is told
+  -- lines are answered on a held table that can be asked, which leaves it so; and it is told how many bytes of answers wait
   pub record AnswersLinesOn (manner : Lines) (lines : List ℕ) (count : ℕ) (was is : HeldTable) (status : ℕ) : Type 0 where
     pub answered : IsAskable was.kept → IsAnsweredOn manner lines was.kept is.kept was.answers.items is.answers.items status
     pub again : IsAskable was.kept → IsAskable is.kept

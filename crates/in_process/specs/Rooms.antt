@@ -4,9 +4,9 @@ use Rattle.std.specs.declared.alloc.Global.{Global}
 use Rattle.game_file.specs.State.{State}
 use Rattle.sector_disk.specs.Disk.{Disk}
 use Rattle.session.specs.Commands.{IsUnopened}
-use Rattle.session_lines.specs.Answered.{status_of_fault}
+use Rattle.solver.specs.Faults.{status_of}
 use Rattle.session_lines.specs.Told.{fault_line}
-use Rattle.solver.specs.Opening.{IsOpened}
+use Rattle.solver.specs.Opened.{IsOpened}
 use Rattle.solver.specs.declared.fault.SolverFault.{SolverFault}
 use Rattle.tree_table.specs.Held.{StoresTrees}
 use Rattle.in_process.specs.Calls.{IsDiskOf, bytes_of}
@@ -48,7 +48,7 @@ pub data IsTaken (bytes : List ℕ) (before after : HeldTables) (number_was numb
       → IsTaken bytes before after number_was number_is out told count 0
   refused : (disk back : Disk) (now : ℕ) (why : SolverFault) → IsDiskOf bytes disk → IsUnopened (StoresTrees 3) disk 0 why back now
       → IsGiven (fault_line why) out told count → IsUnchanged before after number_was number_is
-      → IsTaken bytes before after number_was number_is out told count (status_of_fault why)
+      → IsTaken bytes before after number_was number_is out told count (status_of why)
   no_memory : IsUnchanged before after number_was number_is → count ≡ 0 → told ≡ out
       → IsTaken bytes before after number_was number_is out told count 5
 

@@ -1,7 +1,7 @@
 //! Why a text is no game.
 ghost use Rattle.std.specs.Prelude.{◌≡◌, []};
 ghost use Rattle.rbg_game.specs.Games.{Game};
-ghost use Rattle.rbg_read.specs.Reading.{Reads, Fault};
+ghost use Rattle.rbg_read.specs.Reads.{Reads, Fault};
 ghost use Rattle.rbg_read.specs.declared.fault.GameFault.{GameFault};
 ghost use Rattle.in_process.specs.Given.{IsGiven};
 

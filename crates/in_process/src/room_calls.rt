@@ -1,7 +1,7 @@
 //! A room of tables that stay open, so that a question need not open one anew. Each table has a number in its room, which no other
 //! table gets; a number that was given back is refused.
 ghost use Rattle.std.specs.Prelude.{◌≡◌, ◌≢◌, ◌⊎◌, ◌<◌, ◌≤◌, None, length, slice_set, IfSome, IfNone};
-ghost use Rattle.session_lines.specs.Answered.{status_of_fault};
+ghost use Rattle.solver.specs.Faults.{status_of};
 ghost use Rattle.session_lines.specs.Told.{fault_line};
 ghost use Rattle.in_process.specs.Given.{IsGiven};
 ghost use Rattle.in_process.specs.Lines.{AnswersLinesOn, lines_taken};
@@ -109,7 +109,7 @@ fn open_in(
 
 /// Gives the line of a refusal, and its status; nothing where memory ran out for it.
 fn give_refused(alloc: Global, fault: SolverFault, out: &mut [u8], count: &mut usize) -> u8
-    ensures given { result ≢ 5 → (result ≡ status_of_fault fault) × IsGiven (fault_line fault) out.old out.new count.new }
+    ensures given { result ≢ 5 → (result ≡ status_of fault) × IsGiven (fault_line fault) out.old out.new count.new }
     ensures no_memory { result ≡ 5 → (count.new ≡ 0) × (out.new ≡ out.old) }
 {
     let mut line = Vec::new(alloc);

@@ -19,7 +19,8 @@ use Rattle.rbg_game.specs.declared.game.Variable.{Variable}
 use Rattle.rbg_game.specs.declared.position.SemiState.{SemiState}
 use Rattle.legal_moves.specs.Effects.{Effect}
 
-find_step : {X Y : Type 0} (p : Y → Bool) (f : X → Y) (x : X) (t : Bool) (o : Option Y) (q : Option X) → o ≡ option_map f q → cond t (Some (f x)) o ≡ option_map f (cond t (Some x) q)
+find_step : {X Y : Type 0} (p : Y → Bool) (f : X → Y) (x : X) (t : Bool) (o : Option Y) (q : Option X) → o ≡ option_map f q
+    → cond t (Some (f x)) o ≡ option_map f (cond t (Some x) q)
 find_step p f x true o q h = refl
 find_step p f x false o q h = h
 
@@ -37,13 +38,15 @@ slice_get-map f xs i x within same =
     ∙ ap Some (get_or-map f xs i x (f x) within ∙ ap f (sym same))
 
 -- where a label leads from the vertex at an index
-pub neighbour_is : (game : Game) (from label : ℕ) (v : Vertex) → from < length game.vertices.items → v ≡ get_or game.vertices.items from v → neighbour (game_of game) from label ≡ option_map (λ a. a.to) (find (λ a. a.label == label) v.arrows.items)
+pub neighbour_is : (game : Game) (from label : ℕ) (v : Vertex) → from < length game.vertices.items → v ≡ get_or game.vertices.items from v
+    → neighbour (game_of game) from label ≡ option_map (λ a. a.to) (find (λ a. a.label == label) v.arrows.items)
 neighbour_is game from label v within same =
     ap (option_and_then (λ x. option_map (λ a. a.to) (find (λ a. a.label == label) x.arrows))) (slice_get-map vertex_of game.vertices.items from v within same)
     ∙ ap (option_map (λ a. a.to)) (find-map (λ a. a.label == label) arrow_of v.arrows.items)
     ∙ option_map-twice arrow_of (λ a. a.to) (find (λ a. a.label == label) v.arrows.items)
 
-pub bound_is : (game : Game) (i : ℕ) (v : Variable) → i < length game.variables.items → v ≡ get_or game.variables.items i v → bound_of (game_of game) i ≡ v.bound
+pub bound_is : (game : Game) (i : ℕ) (v : Variable) → i < length game.variables.items → v ≡ get_or game.variables.items i v
+    → bound_of (game_of game) i ≡ v.bound
 bound_is game i v within same =
     ap (λ o. unwrap_or (option_map (λ x. x.bound) o) 0) (slice_get-map variable_of game.variables.items i v within same)
 
@@ -66,23 +69,30 @@ OnTrue-along false P Q f h = tt
 
 -- an assignment, by the tests of the program
 module _ (game : textbook'.Game) (S : SemiState) (v : ℕ) (r : Expression) where
-  assigns-by_tests : (z : ℤ) → z ≡ value_of S.values.items r → le_z (pos 0) z ≡ true → le_z z (pos (bound_of game v)) ≡ true → Effect game (textbook.assignment v r) S (record S { values = record { items = slice_set S.values.items v (nat_abs z) } })
+  assigns-by_tests : (z : ℤ) → z ≡ value_of S.values.items r → le_z (pos 0) z ≡ true → le_z z (pos (bound_of game v)) ≡ true
+      → Effect game (textbook.assignment v r) S (record S { values = record { items = slice_set S.values.items v (nat_abs z) } })
   assigns-by_tests (pos n) e low high = (n, sym e, grind (arith, ints), refl)
   assigns-by_tests (negsuc n) e low high = absurd (cc)
 
-  pub assigns : (z b : ℤ) (xs : List ℕ) → SFits w64 z → z ≡ value_of S.values.items r → le_z (pos 0) (to_z w64 (of_z w64 z)) ≡ true → le_z (to_z w64 (of_z w64 z)) b ≡ true → b ≡ pos (bound_of game v) → xs ≡ slice_set S.values.items v (nat_abs (to_z w64 (of_z w64 z))) → Effect game (textbook.assignment v r) S (record S { values = record { items = xs } })
+  pub assigns : (z b : ℤ) (xs : List ℕ) → SFits w64 z → z ≡ value_of S.values.items r → le_z (pos 0) (to_z w64 (of_z w64 z)) ≡ true
+      → le_z (to_z w64 (of_z w64 z)) b ≡ true → b ≡ pos (bound_of game v)
+      → xs ≡ slice_set S.values.items v (nat_abs (to_z w64 (of_z w64 z)))
+      → Effect game (textbook.assignment v r) S (record S { values = record { items = xs } })
   assigns z b xs fits e low high bound written =
       let same : to_z w64 (of_z w64 z) ≡ z = to_z-of_z w64 z fits in
       let low' : le_z (pos 0) z ≡ true = subst (λ y. le_z (pos 0) y ≡ true) same low in
-      let high' : le_z z (pos (bound_of game v)) ≡ true = subst (λ y. le_z y (pos (bound_of game v)) ≡ true) same (subst (λ y. le_z (to_z w64 (of_z w64 z)) y ≡ true) bound high) in
-      subst (λ ys. Effect game (textbook.assignment v r) S (record S { values = record { items = ys } })) (sym (written ∙ ap (λ y. slice_set S.values.items v (nat_abs y)) same))
+      let high' : le_z z (pos (bound_of game v)) ≡ true = subst (λ y. le_z y (pos (bound_of game v)) ≡ true) same
+      (subst (λ y. le_z (to_z w64 (of_z w64 z)) y ≡ true) bound high) in
+      subst (λ ys. Effect game (textbook.assignment v r) S (record S { values = record { items = ys } }))
+      (sym (written ∙ ap (λ y. slice_set S.values.items v (nat_abs y)) same))
       (assigns-by_tests z e low' high')
 
   pub not_below : (z : ℤ) (T : SemiState) → z ≡ value_of S.values.items r → Effect game (textbook.assignment v r) S T → le_z (pos 0) z ≡ false → ⊥
   not_below (pos n) T e h low = grind (arith, ints)
   not_below (negsuc n) T e h low = let never : negsuc n ≡ pos h.0 = e ∙ h.1 in cc
 
-  pub not_above : (z : ℤ) (T : SemiState) → z ≡ value_of S.values.items r → Effect game (textbook.assignment v r) S T → le_z z (pos (bound_of game v)) ≡ false → ⊥
+  pub not_above : (z : ℤ) (T : SemiState) → z ≡ value_of S.values.items r → Effect game (textbook.assignment v r) S T
+      → le_z z (pos (bound_of game v)) ≡ false → ⊥
   not_above z T e h high =
       let same : z ≡ pos h.0 = e ∙ h.1 in
       let within : h.0 ≤ bound_of game v = h.2 in

@@ -27,12 +27,14 @@ EffectAt-in_range game (one a) n k S T h = (let same : k ≡ n = h.0 in omega ar
 EffectAt-in_range game empty n k S T h = absurd h
 EffectAt-in_range game (cat a b) n k S T h = go h (EffectAt-in_range game a n k S T) (EffectAt-in_range game b (n + count a) k S T)
   where
-    go : EffectAt game a n k S T ⊎ EffectAt game b (n + count a) k S T → (EffectAt game a n k S T → InRange a n k) → (EffectAt game b (n + count a) k S T → InRange b (n + count a) k) → InRange (cat a b) n k
+    go : EffectAt game a n k S T ⊎ EffectAt game b (n + count a) k S T → (EffectAt game a n k S T → InRange a n k)
+        → (EffectAt game b (n + count a) k S T → InRange b (n + count a) k) → InRange (cat a b) n k
     go (inl g) l r = let i = l g in (omega arith, omega arith)
     go (inr g) l r = let i = r g in (omega arith, omega arith)
 EffectAt-in_range game (alt a b) n k S T h = go h (EffectAt-in_range game a n k S T) (EffectAt-in_range game b (n + count a) k S T)
   where
-    go : EffectAt game a n k S T ⊎ EffectAt game b (n + count a) k S T → (EffectAt game a n k S T → InRange a n k) → (EffectAt game b (n + count a) k S T → InRange b (n + count a) k) → InRange (alt a b) n k
+    go : EffectAt game a n k S T ⊎ EffectAt game b (n + count a) k S T → (EffectAt game a n k S T → InRange a n k)
+        → (EffectAt game b (n + count a) k S T → InRange b (n + count a) k) → InRange (alt a b) n k
     go (inl g) l r = let i = l g in (omega arith, omega arith)
     go (inr g) l r = let i = r g in (omega arith, omega arith)
 EffectAt-in_range game (star a) n k S T h = EffectAt-in_range game a n k S T h
@@ -55,32 +57,41 @@ action_at-in_range (one b) n k a f =
     let same = action_at-one b a n k f in
     (omega arith, omega arith)
 action_at-in_range empty n k a f = absurd (cc)
-action_at-in_range (cat b c) n k a f = go (option_or-cases (action_at b n k) (action_at c (n + count b) k) a f) (action_at-in_range b n k a) (action_at-in_range c (n + count b) k a)
+action_at-in_range (cat b c) n k a f = go (option_or-cases (action_at b n k) (action_at c (n + count b) k) a f) (action_at-in_range b n k a)
+    (action_at-in_range c (n + count b) k a)
   where
-    go : (action_at b n k ≡ Some a) ⊎ (action_at c (n + count b) k ≡ Some a) → (action_at b n k ≡ Some a → InRange b n k) → (action_at c (n + count b) k ≡ Some a → InRange c (n + count b) k) → InRange (cat b c) n k
+    go : (action_at b n k ≡ Some a) ⊎ (action_at c (n + count b) k ≡ Some a) → (action_at b n k ≡ Some a → InRange b n k)
+        → (action_at c (n + count b) k ≡ Some a → InRange c (n + count b) k) → InRange (cat b c) n k
     go (inl g) l r = let i = l g in (omega arith, omega arith)
     go (inr g) l r = let i = r g in (omega arith, omega arith)
-action_at-in_range (alt b c) n k a f = go (option_or-cases (action_at b n k) (action_at c (n + count b) k) a f) (action_at-in_range b n k a) (action_at-in_range c (n + count b) k a)
+action_at-in_range (alt b c) n k a f = go (option_or-cases (action_at b n k) (action_at c (n + count b) k) a f) (action_at-in_range b n k a)
+    (action_at-in_range c (n + count b) k a)
   where
-    go : (action_at b n k ≡ Some a) ⊎ (action_at c (n + count b) k ≡ Some a) → (action_at b n k ≡ Some a → InRange b n k) → (action_at c (n + count b) k ≡ Some a → InRange c (n + count b) k) → InRange (alt b c) n k
+    go : (action_at b n k ≡ Some a) ⊎ (action_at c (n + count b) k ≡ Some a) → (action_at b n k ≡ Some a → InRange b n k)
+        → (action_at c (n + count b) k ≡ Some a → InRange c (n + count b) k) → InRange (alt b c) n k
     go (inl g) l r = let i = l g in (omega arith, omega arith)
     go (inr g) l r = let i = r g in (omega arith, omega arith)
 action_at-in_range (star b) n k a f = action_at-in_range b n k a f
 
 -- by the action with the number
-pub EffectAt-by_action : (game : Game) (e : Regex) (n k : ℕ) (a : Action) (S T : SemiState) → action_at e n k ≡ Some a → Effect game a S T → EffectAt game e n k S T
+pub EffectAt-by_action : (game : Game) (e : Regex) (n k : ℕ) (a : Action) (S T : SemiState) → action_at e n k ≡ Some a → Effect game a S T
+    → EffectAt game e n k S T
 EffectAt-by_action game (one b) n k a S T f h =
     let same = action_at-one b a n k f in
     (same.0, subst (λ x. Effect game x S T) (sym same.1) h)
 EffectAt-by_action game empty n k a S T f h = absurd (cc)
-EffectAt-by_action game (cat b c) n k a S T f h = go (option_or-cases (action_at b n k) (action_at c (n + count b) k) a f) (λ g. EffectAt-by_action game b n k a S T g h) (λ g. EffectAt-by_action game c (n + count b) k a S T g h)
+EffectAt-by_action game (cat b c) n k a S T f h = go (option_or-cases (action_at b n k) (action_at c (n + count b) k) a f)
+    (λ g. EffectAt-by_action game b n k a S T g h) (λ g. EffectAt-by_action game c (n + count b) k a S T g h)
   where
-    go : (action_at b n k ≡ Some a) ⊎ (action_at c (n + count b) k ≡ Some a) → (action_at b n k ≡ Some a → EffectAt game b n k S T) → (action_at c (n + count b) k ≡ Some a → EffectAt game c (n + count b) k S T) → EffectAt game (cat b c) n k S T
+    go : (action_at b n k ≡ Some a) ⊎ (action_at c (n + count b) k ≡ Some a) → (action_at b n k ≡ Some a → EffectAt game b n k S T)
+        → (action_at c (n + count b) k ≡ Some a → EffectAt game c (n + count b) k S T) → EffectAt game (cat b c) n k S T
     go (inl g) l r = inl (l g)
     go (inr g) l r = inr (r g)
-EffectAt-by_action game (alt b c) n k a S T f h = go (option_or-cases (action_at b n k) (action_at c (n + count b) k) a f) (λ g. EffectAt-by_action game b n k a S T g h) (λ g. EffectAt-by_action game c (n + count b) k a S T g h)
+EffectAt-by_action game (alt b c) n k a S T f h = go (option_or-cases (action_at b n k) (action_at c (n + count b) k) a f)
+    (λ g. EffectAt-by_action game b n k a S T g h) (λ g. EffectAt-by_action game c (n + count b) k a S T g h)
   where
-    go : (action_at b n k ≡ Some a) ⊎ (action_at c (n + count b) k ≡ Some a) → (action_at b n k ≡ Some a → EffectAt game b n k S T) → (action_at c (n + count b) k ≡ Some a → EffectAt game c (n + count b) k S T) → EffectAt game (alt b c) n k S T
+    go : (action_at b n k ≡ Some a) ⊎ (action_at c (n + count b) k ≡ Some a) → (action_at b n k ≡ Some a → EffectAt game b n k S T)
+        → (action_at c (n + count b) k ≡ Some a → EffectAt game c (n + count b) k S T) → EffectAt game (alt b c) n k S T
     go (inl g) l r = inl (l g)
     go (inr g) l r = inr (r g)
 EffectAt-by_action game (star b) n k a S T f h = EffectAt-by_action game b n k a S T f h
@@ -108,7 +119,8 @@ action-by_EffectAt game (one b) n k S T h = (b, ap (λ t. cond t (Some b) None) 
 action-by_EffectAt game empty n k S T h = absurd h
 action-by_EffectAt game (cat b c) n k S T h = go h (action-by_EffectAt game b n k S T) (action-by_EffectAt game c (n + count b) k S T)
   where
-    go : EffectAt game b n k S T ⊎ EffectAt game c (n + count b) k S T → (EffectAt game b n k S T → Acts game b n k S T) → (EffectAt game c (n + count b) k S T → Acts game c (n + count b) k S T) → Acts game (cat b c) n k S T
+    go : EffectAt game b n k S T ⊎ EffectAt game c (n + count b) k S T → (EffectAt game b n k S T → Acts game b n k S T)
+        → (EffectAt game c (n + count b) k S T → Acts game c (n + count b) k S T) → Acts game (cat b c) n k S T
     go (inl g) l r = let x = l g in (x.0, or_left_some _ _ x.0 x.1, x.2)
     go (inr g) l r =
         let x = r g in
@@ -116,7 +128,8 @@ action-by_EffectAt game (cat b c) n k S T h = go h (action-by_EffectAt game b n 
         (x.0, or_right_some b n k _ x.0 i.0 x.1, x.2)
 action-by_EffectAt game (alt b c) n k S T h = go h (action-by_EffectAt game b n k S T) (action-by_EffectAt game c (n + count b) k S T)
   where
-    go : EffectAt game b n k S T ⊎ EffectAt game c (n + count b) k S T → (EffectAt game b n k S T → Acts game b n k S T) → (EffectAt game c (n + count b) k S T → Acts game c (n + count b) k S T) → Acts game (alt b c) n k S T
+    go : EffectAt game b n k S T ⊎ EffectAt game c (n + count b) k S T → (EffectAt game b n k S T → Acts game b n k S T)
+        → (EffectAt game c (n + count b) k S T → Acts game c (n + count b) k S T) → Acts game (alt b c) n k S T
     go (inl g) l r = let x = l g in (x.0, or_left_some _ _ x.0 x.1, x.2)
     go (inr g) l r =
         let x = r g in

@@ -12,7 +12,8 @@ slice_get-end [] x = refl
 slice_get-end (y ∷ xs) x = slice_get-end xs x
 
 -- an element of a list with one more is of the list, or the new one
-pub slice_get-push : {A : Type 0} (xs : List A) (y : A) (i : ℕ) (x : A) → slice_get (xs ++ y ∷ []) i ≡ Some x → (slice_get xs i ≡ Some x) ⊎ (i ≡ length xs) × (x ≡ y)
+pub slice_get-push : {A : Type 0} (xs : List A) (y : A) (i : ℕ) (x : A) → slice_get (xs ++ y ∷ []) i ≡ Some x
+    → (slice_get xs i ≡ Some x) ⊎ (i ≡ length xs) × (x ≡ y)
 slice_get-push [] y zero x h = inr (refl, cc)
 slice_get-push [] y (suc i) x h = absurd (cc)
 slice_get-push (z ∷ xs) y zero x h = inl h
@@ -36,7 +37,8 @@ pub take-all : {A : Type 0} (xs : List A) (y : A) → take (length xs) (xs ++ y 
 take-all [] y = refl
 take-all (x ∷ xs) y = ap (λ zs. x ∷ zs) (take-all xs y)
 
-pub all_zip-append : {A B : Type 0} (R : A → B → Type 0) (xs xs' : List A) (ys ys' : List B) → AllZip R xs ys → AllZip R xs' ys' → AllZip R (xs ++ xs') (ys ++ ys')
+pub all_zip-append : {A B : Type 0} (R : A → B → Type 0) (xs xs' : List A) (ys ys' : List B) → AllZip R xs ys → AllZip R xs' ys'
+    → AllZip R (xs ++ xs') (ys ++ ys')
 all_zip-append R [] xs' [] ys' h k = k
 all_zip-append R [] xs' (y ∷ ys) ys' h k = absurd h
 all_zip-append R (x ∷ xs) xs' [] ys' h k = absurd h

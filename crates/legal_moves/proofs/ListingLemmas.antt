@@ -5,10 +5,10 @@ use Rattle.std.proofs.lemmas.Option.{slice_get-get_or, get_or_from_slice_get}
 use Rattle.std.proofs.lemmas.Option.{slice_get_past}
 use Rattle.std.proofs.Common.{Vec, Global}
 use Rattle.smallvec.specs.SmallVec.{SmallVec}
-use Rattle.legal_moves.specs.aid.Marks.{IsMarkSet}
-use Rattle.legal_moves.specs.aid.Relations.{row_of, IsRelated}
-use Rattle.legal_moves.specs.declared.relation.Relation.{Relation}
-use Rattle.legal_moves.specs.Listing.{AreListed, list_at}
+use Rattle.legal_moves.specs.lemmas.Marks.{IsMarkSet}
+use Rattle.legal_moves.specs.lemmas.Relations.{row_of, IsRelated}
+use Rattle.legal_moves.specs.declared.automaton.relation.Relation.{Relation}
+use Rattle.legal_moves.specs.NumberLists.{AreListed, list_at}
 use Rattle.legal_moves.proofs.GetLemmas.{slice_get-append, slice_get-push, slice_get-end, slice_get-within}
 
 pub listed_none : (P : ℕ → Type 0) → ((k : ℕ) → ¬ P k) → AreListed P []
@@ -60,7 +60,8 @@ module _ (P : ℕ → Type 0) (n : ℕ) (ks : List ℕ) (h : AreListed (λ k. P 
       all k q (inl less) = let a = h.all k (q, less) in (a.0, slice_get-append ks (n ∷ []) a.0 k a.1)
       all k q (inr same) = (length ks, slice_get-end ks n ∙ ap Some (sym same))
 
-      rising : (k l : ℕ) → {i j : ℕ} → (slice_get ks i ≡ Some k) ⊎ (i ≡ length ks) × (k ≡ n) → (slice_get ks j ≡ Some l) ⊎ (j ≡ length ks) × (l ≡ n) → (slice_get ks j ≡ Some l → j < length ks) → i < j → k < l
+      rising : (k l : ℕ) → {i j : ℕ} → (slice_get ks i ≡ Some k) ⊎ (i ≡ length ks) × (k ≡ n) → (slice_get ks j ≡ Some l) ⊎ (j ≡ length ks)
+          × (l ≡ n) → (slice_get ks j ≡ Some l → j < length ks) → i < j → k < l
       rising k l {i} {j} (inl at) (inl to) inside less = h.ascending i j k l less at to
       rising k l {i} (inl at) (inr to) inside less = let o = h.only i k at in omega (arith, o.1, to.1)
       rising k l {i} {j} (inr at) (inl to) inside less = let w = inside to in absurd (omega (arith, at.0, w, less))
@@ -100,15 +101,19 @@ list_there (x ∷ lists) zero h = (x, refl)
 list_there (x ∷ lists) (suc i) h = list_there lists i (omega (arith, h))
 
 -- one list more
-pub lists_more : (P : ℕ → ℕ → Type 0) (lists lists' : List (SmallVec ℕ)) (list : SmallVec ℕ) → ((i : ℕ) → i < length lists → AreListed (P i) (list_at lists i)) → AreListed (P (length lists)) list.items → lists' ≡ lists ++ list ∷ [] → (i : ℕ) → i < length lists + 1 → AreListed (P i) (list_at lists' i)
+pub lists_more : (P : ℕ → ℕ → Type 0) (lists lists' : List (SmallVec ℕ)) (list : SmallVec ℕ)
+    → ((i : ℕ) → i < length lists → AreListed (P i) (list_at lists i)) → AreListed (P (length lists)) list.items → lists' ≡ lists
+    ++ list ∷ [] → (i : ℕ) → i < length lists + 1 → AreListed (P i) (list_at lists' i)
 lists_more P lists lists' list h new pushed i less = elim (cases_lt i (length lists)) [
   | inl below ↦
       let there = list_there lists i below in
-      let same : list_at lists' i ≡ list_at lists i = list_is lists' i there.0 (ap (λ ls. slice_get ls i) pushed ∙ slice_get-append lists (list ∷ []) i there.0 there.1) ∙ sym (list_is lists i there.0 there.1) in
+      let same : list_at lists' i ≡ list_at lists i = list_is lists' i there.0
+      (ap (λ ls. slice_get ls i) pushed ∙ slice_get-append lists (list ∷ []) i there.0 there.1) ∙ sym (list_is lists i there.0 there.1) in
       subst (AreListed (P i)) (sym same) (h i below)
   | inr above ↦
       let end : i ≡ length lists = omega (arith, above, less) in
-      let same : list_at lists' i ≡ list.items = ap (list_at lists') end ∙ list_is lists' (length lists) list (ap (λ ls. slice_get ls (length lists)) pushed ∙ slice_get-end lists list) in
+      let same : list_at lists' i ≡ list.items = ap (list_at lists') end
+      ∙ list_is lists' (length lists) list (ap (λ ls. slice_get ls (length lists)) pushed ∙ slice_get-end lists list) in
       subst (λ ks. AreListed (P i) ks) (sym same) (subst (λ j. AreListed (P j) list.items) (sym end) new)
 ]
 

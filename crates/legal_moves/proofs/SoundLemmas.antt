@@ -39,7 +39,8 @@ index_past [] v h = refl
 index_past (x ∷ xs) zero h = absurd (omega (arith, h))
 index_past (x ∷ xs) (suc v) h = index_past xs v (omega (arith, h))
 
-pub bound_at : (variables : List Variable) (v : ℕ) → unwrap_or (option_map (λ x. x.bound) (slice_get variables v)) 0 ≡ slice_index (map (λ x. x.bound) variables) v
+pub bound_at : (variables : List Variable) (v : ℕ) → unwrap_or (option_map (λ x. x.bound) (slice_get variables v)) 0 ≡ slice_index
+    (map (λ x. x.bound) variables) v
 bound_at [] v = refl
 bound_at (x ∷ xs) zero = refl
 bound_at (x ∷ xs) (suc v) = bound_at xs v

@@ -65,12 +65,14 @@ in_range empty n w h [] k v e = absurd (cc)
 in_range empty n w h (x ∷ u) k v e = absurd (cc)
 in_range (cat a b) n w h u k v e = go (lies h.0 h.1 u k v (sym h.2 ∙ e)) (in_range a n h.0 h.3) (in_range b (n + count a) h.1 h.4)
   where
-    go : Lies h.0 h.1 u k v → ((u : List ℕ) (k : ℕ) (v : List ℕ) → h.0 ≡ u ++ k ∷ v → InRange a n k) → ((u : List ℕ) (k : ℕ) (v : List ℕ) → h.1 ≡ u ++ k ∷ v → InRange b (n + count a) k) → InRange (cat a b) n k
+    go : Lies h.0 h.1 u k v → ((u : List ℕ) (k : ℕ) (v : List ℕ) → h.0 ≡ u ++ k ∷ v → InRange a n k)
+        → ((u : List ℕ) (k : ℕ) (v : List ℕ) → h.1 ≡ u ++ k ∷ v → InRange b (n + count a) k) → InRange (cat a b) n k
     go (in_left t f g) l r = let i = l u k t f in (omega arith, omega arith)
     go (in_right t f g) l r = let i = r t k v g in (omega arith, omega arith)
 in_range (alt a b) n w h u k v e = go h (λ g. in_range a n w g u k v e) (λ g. in_range b (n + count a) w g u k v e)
   where
-    go : IsWord a n w ⊎ IsWord b (n + count a) w → (IsWord a n w → InRange a n k) → (IsWord b (n + count a) w → InRange b (n + count a) k) → InRange (alt a b) n k
+    go : IsWord a n w ⊎ IsWord b (n + count a) w → (IsWord a n w → InRange a n k) → (IsWord b (n + count a) w → InRange b (n + count a) k)
+        → InRange (alt a b) n k
     go (inl g) l r = let i = l g in (omega arith, omega arith)
     go (inr g) l r = let i = r g in (omega arith, omega arith)
 in_range (star a) n w h u k v e =
@@ -81,7 +83,8 @@ regroup : (k : ℕ) (b l r a u v : List ℕ) → u ≡ b ++ l → v ≡ r ++ a �
 regroup k b l r a u v e f = rw (e, f) (simp append_assoc)
 
 -- two joins that share an element can be crossed there, if their parts can
-Joined-cross : (P : List ℕ → Type 0) (k : ℕ) (u v u' v' : List ℕ) → PartAt P u k v → PartAt P u' k v' → ((l r l' r' : List ℕ) → P (l ++ k ∷ r) → P (l' ++ k ∷ r') → P (l ++ k ∷ r')) → Joined P (u ++ k ∷ v')
+Joined-cross : (P : List ℕ → Type 0) (k : ℕ) (u v u' v' : List ℕ) → PartAt P u k v → PartAt P u' k v'
+    → ((l r l' r' : List ℕ) → P (l ++ k ∷ r) → P (l' ++ k ∷ r') → P (l ++ k ∷ r')) → Joined P (u ++ k ∷ v')
 Joined-cross P k u v u' v' x y c =
     let part = c x.left x.right y.left y.right x.part y.part in
     let whole = Joined-append P x.before _ x.before_is (more (x.left ++ k ∷ y.right) y.after part y.after_is) in
@@ -99,9 +102,11 @@ cross (one a) n k (x ∷ []) v u' v' w w' h e h' e' = absurd (cc)
 cross (one a) n k (x ∷ y ∷ u) v u' v' w w' h e h' e' = absurd (cc)
 cross empty n k [] v u' v' w w' h e h' e' = absurd (cc)
 cross empty n k (x ∷ u) v u' v' w w' h e h' e' = absurd (cc)
-cross (cat a b) n k u v u' v' w w' h e h' e' = go (lies h.0 h.1 u k v (sym h.2 ∙ e)) (lies h'.0 h'.1 u' k v' (sym h'.2 ∙ e')) (λ t t' f f'. cross a n k u t u' t' h.0 h'.0 h.3 f h'.3 f') (λ t t' g g'. cross b (n + count a) k t v t' v' h.1 h'.1 h.4 g h'.4 g')
+cross (cat a b) n k u v u' v' w w' h e h' e' = go (lies h.0 h.1 u k v (sym h.2 ∙ e)) (lies h'.0 h'.1 u' k v' (sym h'.2 ∙ e'))
+    (λ t t' f f'. cross a n k u t u' t' h.0 h'.0 h.3 f h'.3 f') (λ t t' g g'. cross b (n + count a) k t v t' v' h.1 h'.1 h.4 g h'.4 g')
   where
-    go : Lies h.0 h.1 u k v → Lies h'.0 h'.1 u' k v' → ((t t' : List ℕ) → h.0 ≡ u ++ k ∷ t → h'.0 ≡ u' ++ k ∷ t' → IsWord a n (u ++ k ∷ t')) → ((t t' : List ℕ) → h.1 ≡ t ++ k ∷ v → h'.1 ≡ t' ++ k ∷ v' → IsWord b (n + count a) (t ++ k ∷ v')) → IsWord (cat a b) n (u ++ k ∷ v')
+    go : Lies h.0 h.1 u k v → Lies h'.0 h'.1 u' k v' → ((t t' : List ℕ) → h.0 ≡ u ++ k ∷ t → h'.0 ≡ u' ++ k ∷ t' → IsWord a n (u ++ k ∷ t'))
+        → ((t t' : List ℕ) → h.1 ≡ t ++ k ∷ v → h'.1 ≡ t' ++ k ∷ v' → IsWord b (n + count a) (t ++ k ∷ v')) → IsWord (cat a b) n (u ++ k ∷ v')
     go (in_left t f g) (in_left t' f' g') l r = (u ++ k ∷ t', h'.1, ap (λ x. u ++ k ∷ x) g' ∙ sym (append_assoc u (k ∷ t') h'.1), l t t' f f', h'.4)
     go (in_left t f g) (in_right t' f' g') l r =
         let i = in_range a n h.0 h.3 u k t f in
@@ -114,7 +119,9 @@ cross (cat a b) n k u v u' v' w w' h e h' e' = go (lies h.0 h.1 u k v (sym h.2 �
     go (in_right t f g) (in_right t' f' g') l r = (h.0, t ++ k ∷ v', ap (λ x. x ++ k ∷ v') f ∙ append_assoc h.0 t (k ∷ v'), h.3, r t t' g g')
 cross (alt a b) n k u v u' v' w w' h e h' e' = go h h' (λ g g'. cross a n k u v u' v' w w' g e g' e') (λ g g'. cross b (n + count a) k u v u' v' w w' g e g' e')
   where
-    go : IsWord a n w ⊎ IsWord b (n + count a) w → IsWord a n w' ⊎ IsWord b (n + count a) w' → (IsWord a n w → IsWord a n w' → IsWord a n (u ++ k ∷ v')) → (IsWord b (n + count a) w → IsWord b (n + count a) w' → IsWord b (n + count a) (u ++ k ∷ v')) → IsWord (alt a b) n (u ++ k ∷ v')
+    go : IsWord a n w ⊎ IsWord b (n + count a) w → IsWord a n w' ⊎ IsWord b (n + count a) w'
+        → (IsWord a n w → IsWord a n w' → IsWord a n (u ++ k ∷ v'))
+        → (IsWord b (n + count a) w → IsWord b (n + count a) w' → IsWord b (n + count a) (u ++ k ∷ v')) → IsWord (alt a b) n (u ++ k ∷ v')
     go (inl g) (inl g') l r = inl (l g g')
     go (inl g) (inr g') l r =
         let i = in_range a n w g u k v e in
@@ -126,4 +133,5 @@ cross (alt a b) n k u v u' v' w w' h e h' e' = go h h' (λ g g'. cross a n k u v
         absurd (omega arith)
     go (inr g) (inr g') l r = inr (r g g')
 cross (star a) n k u v u' v' w w' h e h' e' =
-    Joined-cross (IsWord a n) k u v u' v' (part_at (IsWord a n) w h u k v e) (part_at (IsWord a n) w' h' u' k v' e') (λ l r l' r' p p'. cross a n k l r l' r' _ _ p refl p' refl)
+    Joined-cross (IsWord a n) k u v u' v' (part_at (IsWord a n) w h u k v e) (part_at (IsWord a n) w' h' u' k v' e')
+    (λ l r l' r' p p'. cross a n k l r l' r' _ _ p refl p' refl)

@@ -7,7 +7,7 @@ use Rattle.rbg_game.specs.Positions.{IsPositionOf}
 use Rattle.position_pack.specs.declared.kind.PackingKind.{PackingKind}
 use Rattle.position_pack.specs.Shape.{shape_of}
 use Rattle.legal_moves.specs.Configurations.{expressions_of}
-use Rattle.legal_moves.specs.Jumps.{AreJumps}
+use Rattle.legal_moves.specs.Jumps.{AreRows, AreJumps}
 use Rattle.legal_moves.specs.Made.{CompiledGame}
 use Rattle.legal_moves.specs.Moves.{start_of}
 use Rattle.legal_moves.specs.Tables.{AreTables, AreSame, inner_of}
@@ -30,10 +30,11 @@ pub record IsSoundCompiled (c : CompiledGame) : Type 0 where
   pub sound : IsSoundGame (compiled_game c)
   pub start_is : IsPositionOf (compiled_game c) (start_of (compiled_game c))
 
--- the game is within its limits, its own packing is used, and each expression that is searched has its table and its jumps
+-- the game is within its limits, its own packing is used, and each expression that is searched has its table and its jumps, and so have the rules
 pub record IsCompiled (c : Inside) : Type 0 where
   pub sound : IsSoundGame (game_of c.game)
   pub packing_is : c.packing.shape ≡ shape_of (game_of c.game)
   pub tables_are : AreTables (expressions_of (game_of c.game)) c.tables.items
   pub same_are : AreSame (inner_of (game_of c.game).rules) c.same.items
   pub jumps_are : AreJumps (game_of c.game) c.tables.items c.jumps.items
+  pub hops_are : AreRows (game_of c.game) (game_of c.game).rules c.hops

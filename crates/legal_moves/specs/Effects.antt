@@ -42,7 +42,7 @@ module _ (game : Game) where
         let IsLegal = (w : List ℕ) × (U : SemiState) × IsWord e 1 w × Path (EffectAt e 1) w S U in
         (T ≡ S) × MatchBool positive IsLegal (¬ IsLegal)
 
-    -- the same for the occurrence with the number k, where the numbers begin with n
+    -- the effect of the occurrence with the number k, where the numbers begin with n
     pub EffectAt : Regex → ℕ → ℕ → SemiState → SemiState → Type 0
     EffectAt (one a) n k S T = (k ≡ n) × Effect a S T
     EffectAt empty n k S T = ⊥

@@ -10,7 +10,7 @@ pub mod Effects
 pub mod Moves
 pub mod Searches
 pub mod Listed
-pub mod Listing
+pub mod NumberLists
 pub mod Tables
 pub mod Configurations
 pub mod Jumps
@@ -23,4 +23,4 @@ pub mod Glushkov
 pub mod Take
 pub mod Sources
 pub mod Machine
-pub mod aid
+pub mod lemmas

@@ -4,11 +4,11 @@ use Rattle.std.specs.List.{AllZip, list_any}
 use Rattle.rbg_game.specs.Rules.{Regex, one, empty, cat, alt, star, count, Action, pattern}
 use Rattle.rbg_game.specs.Meaning.{action_of}
 use Rattle.legal_moves.specs.Glushkov.{is_nullable, IsNextAt}
-use Rattle.legal_moves.specs.Listing.{AreListed, list_at}
-use Rattle.legal_moves.specs.declared.table.Step.{Step}
-use Rattle.legal_moves.specs.declared.table.Step.TheVariants.{Act, Ask}
-use Rattle.legal_moves.specs.declared.table.Ends.{Ends}
-use Rattle.legal_moves.specs.declared.table.Table.{Table}
+use Rattle.legal_moves.specs.NumberLists.{AreListed, list_at}
+use Rattle.legal_moves.specs.declared.automaton.table.Step.{Step}
+use Rattle.legal_moves.specs.declared.automaton.table.Step.TheVariants.{Act, Ask}
+use Rattle.legal_moves.specs.declared.automaton.table.Ends.{Ends}
+use Rattle.legal_moves.specs.declared.automaton.table.Table.{Table}
 
 -- the actions of an expression, in the order of their numbers
 abbrev pub actions_of : Regex → List Action

@@ -8,18 +8,19 @@ ghost use Rattle.legal_moves.specs.Searches.{IsWide};
 ghost use Rattle.legal_moves.specs.Listed.{AreMoves, IsShortestMove};
 ghost use Rattle.legal_moves.specs.declared.limits.TheConstants.{WIDEST};
 
-use crate::compile::add_table;
+use crate::automaton::compile::add_table;
+use crate::automaton::jumps::{Jumps, all_jumps, jumps_of_rules};
+use crate::automaton::patterns::same_patterns;
+use crate::automaton::table::Table;
 use crate::ends::ascending_ends;
 use crate::fault::MoveFault;
 use crate::fields::{byte_at, leader_of, role_with, value_at};
-use crate::found::Found;
-use crate::jumps::{Jumps, all_jumps};
 use crate::moves::Moves;
-use crate::patterns::same_patterns;
-use crate::room::Room;
-use crate::search::Searcher;
+use crate::search::found::Found;
+use crate::search::hop::Hopper;
+use crate::search::room::Room;
+use crate::search::searcher::Searcher;
 use crate::source::MoveSource;
-use crate::table::Table;
 use arrayvec::ArrayVec;
 use position_pack::{Packed, Packing, PackingKind};
 use rbg_game::game::Game;
@@ -43,6 +44,8 @@ pub struct Compiled {
     same: Vec<usize>,
     /// The jumps of each table.
     jumps: Vec<Jumps>,
+    /// The jumps of the rules.
+    hops: Jumps,
     /// The goal of the table, if it has one.
     goal: Option<Goal>,
     /// Room that one search leaves to the next. Nothing is said of what it holds.
@@ -73,8 +76,9 @@ impl Compiled {
     ghost use Rattle.legal_moves.specs.Searches.{IsWide};
     ghost use Rattle.legal_moves.specs.Listed.{AreMoves, IsShortestMove};
     ghost use Rattle.legal_moves.specs.Compiled.{compiled_game, packing_kind, compiled_goal, IsSoundCompiled};
-    ghost use Rattle.legal_moves.specs.aid.Configurations.{IsSearch};
-    ghost use Rattle.legal_moves.specs.aid.Standing.{configurations_of, AreKept};
+    ghost use Rattle.legal_moves.specs.lemmas.Configurations.{IsSearch};
+    ghost use Rattle.legal_moves.specs.lemmas.Reached.{AreReached};
+    ghost use Rattle.legal_moves.specs.lemmas.Stands.{configurations_of, AreKept};
     ghost use Rattle.rbg_game.specs.Goals.{points_of};
     ghost use Rattle.position_pack.specs.Packings.{form_of};
 
@@ -96,6 +100,7 @@ impl Compiled {
         add_table(alloc, &mut tables, &game.rules)?;
         let same = same_patterns(alloc, &game.rules)?;
         let jumps = all_jumps(alloc, &game, &tables)?;
+        let hops = jumps_of_rules(alloc, &game, &tables)?;
         let packing = Packing::new(&game, kind);
         Ok(Compiled {
             game,
@@ -103,6 +108,7 @@ impl Compiled {
             tables,
             same,
             jumps,
+            hops,
             goal,
             room: Cell::new(None),
         })
@@ -181,6 +187,29 @@ impl Compiled {
         searcher.search(room, rules, at.place, &at.state)
     }
 
+    /// The search for the ends of the moves of a position.
+    fn ends(&self, alloc: Global, room: &mut Room, at: &Position) -> Result<Found, MoveFault>
+        requires at { IsPositionOf (compiled_game self.now) at.now }
+        ensures reached { let game = compiled_game self.now in IfOk result
+            (λ found. AreReached game game.rules at.now.place at.now.state (configurations_of found)) }
+        ensures kept { IfOk result AreKept }
+        ensures wide { result ≡ Err MoveFault.TooWide → IsWide (compiled_game self.now) at.now }
+    {
+        let searcher = Searcher {
+            game: &self.game,
+            tables: &self.tables,
+            same: &self.same,
+            jumps: &self.jumps,
+            alloc,
+        };
+        let hopper = Hopper {
+            searcher,
+            rows: &self.hops,
+        };
+        let rules = self.tables.len() - 1;
+        hopper.ends(room, rules, at.place, &at.state)
+    }
+
     /// The room that the search before this one has left, or new room.
     fn room(&self, alloc: Global) -> Result<Box<Room>, AllocError> {
         match self.room.take() {
@@ -254,7 +283,7 @@ impl MoveSource for Compiled {
             return Ok(Vec::new(alloc));
         };
         let mut room = self.room(alloc)?;
-        let found = self.search(alloc, &mut room, &position)?;
+        let found = self.ends(alloc, &mut room, &position)?;
         let successors = ascending_ends(alloc, &self.packing, &found)?;
         room.keep(found);
         self.room.set(Some(room));

@@ -6,8 +6,8 @@ ghost use Rattle.rbg_game.specs.declared.position.SemiState.{SemiState};
 ghost use Rattle.legal_moves.specs.Effects.{Compares, Effect};
 ghost use Rattle.rbg_game.specs.Positions.{IsStateOf};
 ghost use Rattle.legal_moves.specs.Plain.{IsPlain};
-ghost use Rattle.legal_moves.specs.aid.Looking.{at_vertex, GlanceTells};
-ghost use Rattle.legal_moves.specs.aid.Seen.{state_seen};
+ghost use Rattle.legal_moves.specs.lemmas.VertexSearch.{at_vertex, GlanceTells};
+ghost use Rattle.legal_moves.specs.lemmas.Seen.{state_seen};
 
 use rbg_game::game::{Game, Vertex};
 use rbg_game::position::SemiState;

@@ -1,12 +1,12 @@
 //! The configurations at which a move ends, as bytes.
 ghost use Rattle.std.specs.Prelude.{◌≡◌, ◌<◌, IfOk, map, length};
-ghost use Rattle.legal_moves.specs.aid.Boards.{boards_in, AreWhole};
-ghost use Rattle.legal_moves.specs.aid.Ends.{ends_packed, AreAscendingEnds};
-ghost use Rattle.legal_moves.specs.aid.Standing.{stood, configurations_of, AllStand, AreKept};
+ghost use Rattle.legal_moves.specs.lemmas.Boards.{boards_in, AreWhole};
+ghost use Rattle.legal_moves.specs.lemmas.Ends.{ends_packed, AreAscendingEnds};
+ghost use Rattle.legal_moves.specs.lemmas.Stands.{stood, configurations_of, AllStand, AreKept};
 
-use crate::boards::Boards;
 use crate::copies::empty_state;
-use crate::found::{Found, Stand};
+use crate::search::boards::Boards;
+use crate::search::found::{Found, Stand};
 use position_pack::{Packed, Packing};
 use rbg_game::position::Position;
 use std::alloc::{AllocError, Global};

@@ -1,7 +1,7 @@
 //! Rows of marks.
 ghost use Rattle.std.specs.Prelude.{◌≡◌, ◌==◌, ℕ, ◌⊎◌, ◌↔◌, IfOk, OnOk, false, slice_index_or};
 ghost use Rattle.std.specs.List.{list_any};
-ghost use Rattle.legal_moves.specs.aid.Marks.{IsMarkSet};
+ghost use Rattle.legal_moves.specs.lemmas.Marks.{IsMarkSet};
 
 use std::alloc::{AllocError, Global};
 

@@ -1,13 +1,13 @@
 //! The moves of one position.
 ghost use Rattle.std.specs.Prelude.{◌≡◌, ◌<◌, length, IfOk, map, slice_get, Some, option_map};
 ghost use Rattle.legal_moves.specs.Shown.{ComeFromBefore};
-ghost use Rattle.legal_moves.specs.aid.Boards.{boards_in, AreWhole};
-ghost use Rattle.legal_moves.specs.aid.Configurations.{AreEnds, AreEndsShown, HaveOwnBytes};
-ghost use Rattle.legal_moves.specs.aid.Standing.{stood, configurations_of, AllStand, AreKept};
+ghost use Rattle.legal_moves.specs.lemmas.Boards.{boards_in, AreWhole};
+ghost use Rattle.legal_moves.specs.lemmas.Configurations.{AreEnds, AreEndsShown, HaveOwnBytes};
+ghost use Rattle.legal_moves.specs.lemmas.Stands.{stood, configurations_of, AllStand, AreKept};
 
-use crate::boards::Boards;
 use crate::copies::empty_state;
-use crate::found::{Found, Stand};
+use crate::search::boards::Boards;
+use crate::search::found::{Found, Stand};
 use crate::successor::Successor;
 use position_pack::{Packed, pack_bytes_at};
 use smallvec::SmallVec;
@@ -37,8 +37,8 @@ impl Model for Moves {
     ghost Value = { List ShownMove };
 
     ghost use Rattle.legal_moves.specs.Shown.{shown_of, ComeFromBefore};
-    ghost use Rattle.legal_moves.specs.aid.Boards.{boards_in};
-    ghost use Rattle.legal_moves.specs.aid.Standing.{stood};
+    ghost use Rattle.legal_moves.specs.lemmas.Boards.{boards_in};
+    ghost use Rattle.legal_moves.specs.lemmas.Stands.{stood};
 
     ghost view = { λ m. map (shown_of (map (stood (boards_in m.boards)) m.stands.items)) m.successors.items };
 

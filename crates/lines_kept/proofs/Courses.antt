@@ -4,7 +4,7 @@ use Rattle.std.proofs.Common.{subst, append-nil, arith}
 use Rattle.std.proofs.lemmas.Bool.{cases_lt}
 use Rattle.std.proofs.lemmas.List.{map-append}
 use Rattle.sector_disk.specs.Disk.{Disk, GoesOn, Shown, at_moment}
-use Rattle.sector_disk.specs.aid.Moments.{goes_on_trans}
+use Rattle.sector_disk.specs.lemmas.Moments.{goes_on_trans}
 use Rattle.game_file.specs.Kept.{Layout}
 use Rattle.game_file.specs.State.{State}
 use Rattle.retrograde.specs.Stored.{Stored}

@@ -9,7 +9,7 @@ use Rattle.game_file.specs.State.{State}
 use Rattle.retrograde.specs.Stored.{Stored}
 use Rattle.solver.specs.Histories.{IsFound}
 use Rattle.solver.specs.Machine.{Command}
-use Rattle.solver.specs.Opening.{IsOpened}
+use Rattle.solver.specs.Opened.{IsOpened}
 use Rattle.solver.specs.declared.replies.Reply.{Reply}
 use Rattle.session.specs.Commands.{Came, made, refused, replied, told_text, audited, another, brought, grown, GivesBack, IsDoneOnFile, IsUnopened}
 use Rattle.session.specs.Seen.{Moment}

@@ -5,7 +5,7 @@ use Rattle.std.proofs.lemmas.Bool.{cases_lt, le-leb, lt-leb}
 use Rattle.std.proofs.lemmas.List.{map-append}
 use Rattle.std.specs.Prelude.{nat_le, if◌then◌else◌}
 use Rattle.sector_disk.specs.Disk.{Disk, GoesOn, Shown, StopsIn, at_moment}
-use Rattle.sector_disk.specs.aid.Moments.{goes_on_refl, goes_on_trans}
+use Rattle.sector_disk.specs.lemmas.Moments.{goes_on_refl, goes_on_trans}
 use Rattle.game_file.specs.Calls.{IsAsked}
 use Rattle.game_file.specs.Kept.{Layout}
 use Rattle.game_file.specs.State.{State}

@@ -55,7 +55,7 @@ module _ {F Version : Type 0} (Stores : ℕ → Layout) (state : F → State)
       record { command = work (units_in units); reply = is.reply; moment = moment } ∷ []
   command_in moment _ = []
 
-  -- the same of a line by its bytes; a session that only looks has none
+  -- the command that a line by its bytes gives and tells; of a session that only looks there is none
   abbrev pub command_of : (Says : List ℕ → List ℕ → Type 0) (bytes : List ℕ) (old new : F)
       (before after : Option (List (Listing Version))) (status : ℕ) (text : List ℕ) → Moment
       → AnswersIn Stores state IsVersion AreTwo IsUsedUp Lasts Says bytes old new before after status text → List Answer

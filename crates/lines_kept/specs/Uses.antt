@@ -5,11 +5,11 @@ use Rattle.game_file.specs.Calls.{IsAsked}
 use Rattle.game_file.specs.Kept.{Layout}
 use Rattle.game_file.specs.State.{State}
 use Rattle.retrograde.specs.Stored.{Stored}
-use Rattle.solver.specs.Growing.{IsGrowth}
+use Rattle.solver.specs.Growth.{IsGrowth}
 use Rattle.solver.specs.Headline.{Headline}
 use Rattle.solver.specs.Histories.{IsFound, Sitting}
 use Rattle.solver.specs.Machine.{Command}
-use Rattle.solver.specs.Opening.{IsCreated, IsOpened}
+use Rattle.solver.specs.Opened.{IsCreated, IsOpened}
 use Rattle.solver.specs.Runs.{IsTurn}
 use Rattle.solver.specs.declared.replies.Reply.{Reply}
 use Rattle.session.specs.Seen.{Moment, Seen}

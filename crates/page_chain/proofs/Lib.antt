@@ -1,5 +1,5 @@
-mod Linking
-mod Passing
-mod Putting
-mod Reading
-mod Taking
+mod Links
+mod Exits
+mod WrittenPages
+mod ReadPages
+mod TakenPages

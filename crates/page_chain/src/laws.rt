@@ -2,7 +2,7 @@
 ghost use Rattle.std.specs.Prelude.{◌≡◌, ◌*◌, ◌≤◌, ℕ, List, length, Contains};
 ghost use Rattle.page_store.specs.declared.marks.Mark.TheVariants.{Committed, Fresh};
 ghost use Rattle.page_store.specs.Marks.{mark};
-ghost use Rattle.page_store.specs.Spelling.{SpelledBy, Stands, IsPrepared};
+ghost use Rattle.page_store.specs.Spelled.{SpelledBy, Stands, IsPrepared};
 ghost use Rattle.page_store.specs.Store.{Store, reads};
 ghost use Rattle.page_chain.specs.Chain.{IsChain};
 ghost use Rattle.page_chain.specs.declared.page.TheConstants.{PAYLOAD};

@@ -1,14 +1,10 @@
 //! A chain is read, page by page. No memory is reserved for a length before its pages are there.
-ghost use Rattle.std.specs.Prelude.{◌≡◌, ◌⊎◌, ◌++◌, ◌∷◌, [], ◌<◌, ◌≤◌, ◌+◌, ◌*◌, ℕ, length, drop, Contains, OnOk, IfOk, IfErr, IsTrue};
-ghost use Rattle.sector_disk.specs.Disk.{LeavesOnly, MayLeave};
-ghost use Rattle.page_store.specs.declared.marks.Mark.TheVariants.{Committed, Waiting};
-ghost use Rattle.page_store.specs.Marks.{mark as mark_of};
-ghost use Rattle.page_store.specs.Store.{reads, StoreWorks};
-ghost use Rattle.page_chain.specs.Chain.{IsChain};
+ghost use Rattle.std.specs.Prelude.{◌≡◌, ◌++◌, ◌∷◌, [], drop, OnOk, IfOk, IfErr};
+ghost use Rattle.page_store.specs.Frames.{OnlyMarks};
 ghost use Rattle.page_chain.specs.Causes.{ChainReadCause};
-ghost use Rattle.page_chain.specs.aid.Causes.{LinkCause};
-ghost use Rattle.page_chain.specs.aid.Links.{IsJoined};
-ghost use Rattle.page_store.specs.aid.Marking.{OnlyMarks};
+ghost use Rattle.page_chain.specs.Frames.{IsChainRead};
+ghost use Rattle.page_chain.specs.lemmas.Causes.{LinkCause};
+ghost use Rattle.page_chain.specs.lemmas.Links.{IsJoined};
 
 use crate::page::{next_of, pages_for, payload_of};
 use page_store::{PageFault, Pages};
@@ -32,20 +28,8 @@ pub fn read_chain<P: Pages>(
     first: u32,
     size: usize,
 ) -> Result<Chain, PageFault>
-    ensures chain { IsTrue (P.store store.old).disk.honest → IfOk result (λ chain.
-        IsChain (length (P.store store.old).marks) first chain.pages.items chain.content.items (reads (P.store store.old))) }
-    ensures long { IfOk result (λ chain. length chain.content.items ≡ size) }
-    ensures marked { IfOk result (λ chain. (p : ℕ) → Contains chain.pages.items p → mark_of (P.store store.new).marks p ≡ Committed) }
-    ensures waited { IfOk result (λ chain. (p : ℕ) → Contains chain.pages.items p → mark_of (P.store store.old).marks p ≡ Waiting) }
-    ensures kept { IfOk result (λ chain. (p : ℕ) → (mark_of (P.store store.new).marks p ≡ mark_of (P.store store.old).marks p)
-        ⊎ Contains chain.pages.items p) }
-    ensures others { (p : ℕ) → (mark_of (P.store store.new).marks p ≡ mark_of (P.store store.old).marks p)
-        ⊎ (mark_of (P.store store.new).marks p ≡ Committed) }
-    ensures shown { IsTrue (P.store store.old).disk.honest → (P.store store.new).disk.now ≡ (P.store store.old).disk.now }
-    ensures leaves { IsTrue (P.store store.old).disk.honest
-        → LeavesOnly (P.store store.old).disk (P.store store.new).disk (MayLeave (P.store store.old).disk.now) }
-    ensures closed { (P.store store.new).closed ≡ (P.store store.old).closed }
-    ensures works { StoreWorks (P.store store.old) (P.store store.new) }
+    ensures ok { IfOk result (λ chain. IsChainRead first size chain.pages.items chain.content.items (P.store store.old) (P.store store.new)) }
+    ensures only { OnlyMarks (P.store store.old) (P.store store.new) }
     ensures cause { IfErr result (ChainReadCause first size (P.store store.old) (P.store store.new)) }
 {
     let mut pages = Vec::new(alloc);

@@ -1,15 +1,12 @@
 //! A chain is written: its pages are taken first, and then each is written with the number of the next one.
-ghost use Rattle.std.specs.Prelude.{◌≡◌, ◌≢◌, ◌⊎◌, ◌+◌, ◌*◌, ◌<◌, ◌≤◌, ℕ, false, length, take, drop, slice_index, Contains, OnOk, IfOk};
-ghost use Rattle.std.specs.Prelude.{IfErr, IsTrue};
-ghost use Rattle.page_store.specs.Causes.{PageWriteCause};
+ghost use Rattle.std.specs.Prelude.{◌≡◌, ◌⊎◌, ◌+◌, ◌*◌, ◌<◌, ◌≤◌, ℕ, length, slice_index, Contains, OnOk, IfOk, IfErr};
 ghost use Rattle.page_store.specs.declared.marks.Mark.TheVariants.{Fresh, Free};
 ghost use Rattle.page_store.specs.Marks.{mark as mark_of, free_count};
-ghost use Rattle.page_store.specs.Store.{reads, StoreWorks};
-ghost use Rattle.page_chain.specs.Chain.{IsChain, LeadsThrough, payloads, first_of};
-ghost use Rattle.page_chain.specs.Causes.{ChainWriteCause};
-ghost use Rattle.page_chain.specs.aid.Causes.{HandOutCause};
-ghost use Rattle.page_chain.specs.aid.Links.{HandsOut, AreTaken};
 ghost use Rattle.page_store.specs.Pages.{IsOnce};
+ghost use Rattle.page_store.specs.Store.{StoreWorks};
+ghost use Rattle.page_chain.specs.Frames.{IsChainWritten, IsNotWritten, AreLinked, AreNotLinked};
+ghost use Rattle.page_chain.specs.lemmas.Causes.{HandOutCause};
+ghost use Rattle.page_chain.specs.lemmas.Links.{HandsOut, AreTaken};
 ghost use Rattle.page_chain.specs.declared.page.TheConstants.{PAYLOAD};
 
 use crate::page::{page_with, pages_for, part_of};
@@ -25,22 +22,11 @@ pub fn write_chain<P: Pages>(
     store: &mut P,
     content: &[u8],
 ) -> Result<Vec<u32>, PageFault>
-    ensures chain { IsTrue (P.store store.old).disk.honest → IfOk result (λ pages.
-        IsChain (length (P.store store.old).marks) (first_of pages.items) pages.items content.now (reads (P.store store.new))) }
-    ensures fresh { IfOk result (λ pages. (p : ℕ) → Contains pages.items p → mark_of (P.store store.new).marks p ≡ Fresh) }
-    ensures freed { IfOk result (λ pages. (p : ℕ) → Contains pages.items p → mark_of (P.store store.old).marks p ≡ Free) }
-    ensures kept { IfOk result (λ pages. (p : ℕ) → (mark_of (P.store store.new).marks p ≡ mark_of (P.store store.old).marks p)
-        ⊎ Contains pages.items p) }
-    ensures few { OnOk result
-        (PAYLOAD * free_count (P.store store.old).marks < PAYLOAD * free_count (P.store store.new).marks + length content.now + PAYLOAD) }
+    ensures ok { IfOk result (λ pages. IsChainWritten content.now pages.items (P.store store.old) (P.store store.new)) }
     ensures others { (p : ℕ) → (mark_of (P.store store.new).marks p ≡ mark_of (P.store store.old).marks p)
         ⊎ ((mark_of (P.store store.old).marks p ≡ Free) × (mark_of (P.store store.new).marks p ≡ Fresh)) }
-    ensures open { OnOk result (1 ≤ length content.now → (P.store store.new).closed ≡ false) }
-    ensures closed { OnOk result ((P.store store.new).closed ≡ (P.store store.old).closed) }
     ensures works { StoreWorks (P.store store.old) (P.store store.new) }
-    ensures refused { IfErr result (λ fault. fault ≡ PageFault.TableFull → P.store store.new ≡ P.store store.old) }
-    ensures still { IfErr result (λ fault. fault ≢ PageFault.Disk → (P.store store.new).closed ≡ (P.store store.old).closed) }
-    ensures cause { IfErr result (ChainWriteCause (length content.now) (P.store store.old) (P.store store.new)) }
+    ensures err { IfErr result (IsNotWritten (length content.now) (P.store store.old) (P.store store.new)) }
 {
     let count = pages_for(content.len());
     if (store.free_pages() as usize) < count {
@@ -72,16 +58,10 @@ fn write_pages<P: Pages>(store: &mut P, pages: &[u32], content: &[u8]) -> Result
     requires fresh { (p : ℕ) → Contains pages.now p → mark_of (P.store store.old).marks p ≡ Fresh }
     requires once { IsOnce pages.now }
     requires no_more { PAYLOAD * length pages.now < length content.now + PAYLOAD }
-    ensures leads { IsTrue (P.store store.old).disk.honest
-        → OnOk result (LeadsThrough (reads (P.store store.new)) (first_of pages.now) pages.now) }
-    ensures holds { IsTrue (P.store store.old).disk.honest → OnOk result
-        (take (length content.now) (payloads (reads (P.store store.new)) pages.now) ≡ take (PAYLOAD * length pages.now) content.now) }
-    ensures open { OnOk result (1 ≤ length pages.now → (P.store store.new).closed ≡ false) }
-    ensures closed { OnOk result ((P.store store.new).closed ≡ (P.store store.old).closed) }
+    ensures ok { OnOk result (AreLinked content.now pages.now (P.store store.old) (P.store store.new)) }
     ensures marks { (P.store store.new).marks ≡ (P.store store.old).marks }
     ensures works { StoreWorks (P.store store.old) (P.store store.new) }
-    ensures still { IfErr result (λ fault. fault ≢ PageFault.Disk → (P.store store.new).closed ≡ (P.store store.old).closed) }
-    ensures cause { IfErr result (PageWriteCause (P.store store.old) (P.store store.new)) }
+    ensures err { IfErr result (AreNotLinked (P.store store.old) (P.store store.new)) }
 {
     for place in 0..pages.len() {
         let bytes = page_with(next_after(pages, place), part_of(content, place));

@@ -39,7 +39,7 @@ holds_of t h = record { taken = t; of = h }
 abbrev pub holders_at : List Holders → ℕ → Holders
 holders_at holders p = slice_index_or holders p none
 
--- the same holds are taken, and each page is needed by the same of them; more pages may be there, which none of them needs
+-- no hold is taken or let go, and each page is needed by the holds that needed it; pages that none needs may have come
 pub record SameHolds (old new : Holds) : Type 0 where
   pub taken : new.taken ≡ old.taken
   pub each : (p : ℕ) → holders_at new.of p ≡ holders_at old.of p

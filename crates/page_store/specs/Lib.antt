@@ -2,12 +2,13 @@ pub use Rattle.sector_disk.specs.Disk
 pub mod Blocks
 pub mod Cache
 pub mod Causes
+pub mod Frames
 pub mod Holds
 pub mod Marks
 pub mod Page
 pub mod Places
-pub mod Spelling
+pub mod Spelled
 pub mod Store
 pub mod Pages
 pub mod InStore
-pub mod aid
+pub mod lemmas

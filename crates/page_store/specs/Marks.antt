@@ -2,9 +2,8 @@
 use Rattle.std.specs.Prelude.{◌≡◌, ◌≢◌, ℕ, ◌+◌, ◌≤◌, ◌<◌, Bool, true, false, cond, List, [], ◌∷◌, length, slice_index_or, IsTrue}
 use Rattle.page_store.specs.declared.marks.Mark.{Mark}
 use Rattle.page_store.specs.declared.marks.Mark.TheVariants.{Committed, Waiting, Fresh, Released, Free, Past}
-use Rattle.page_store.specs.declared.holds.HoldPlace.{HoldPlace}
 use Rattle.page_store.specs.declared.holds.Holders.{Holders}
-use Rattle.page_store.specs.Holds.{any, with_need, holders_at}
+use Rattle.page_store.specs.Holds.{any, holders_at}
 
 -- the mark of a page; what lies after the last page is never handed out
 abbrev pub mark : List Mark → ℕ → Mark
@@ -153,6 +152,10 @@ free_one Past = 0
 abbrev pub free_count : List Mark → ℕ
 free_count [] = 0
 free_count (m ∷ marks) = free_one m + free_count marks
+
+-- each page from this one on is free
+pub record AreFreeFrom (high : ℕ) (marks : List Mark) : Type 0 where
+  pub each : (p : ℕ) → high ≤ p → p < length marks → mark marks p ≡ Free
 
 -- after `release`: free at once where it was handed out since the last commit, and else after the next
 abbrev pub let_go : Mark → Mark

@@ -5,8 +5,7 @@ use Rattle.root_pair.specs.Root.{HoldsRoot, root_of, IsAtRest}
 use Rattle.page_store.specs.declared.marks.Mark.{Mark}
 use Rattle.page_store.specs.declared.marks.Mark.TheVariants.{Committed, Waiting}
 use Rattle.page_store.specs.declared.holds.HoldPlace.{HoldPlace}
-use Rattle.page_store.specs.declared.holds.Holders.{Holders}
-use Rattle.page_store.specs.Holds.{Holds, SameHolds, holds_of, holders_at, needed_by, with_need, any, none}
+use Rattle.page_store.specs.Holds.{Holds, SameHolds, holders_at, needed_by, with_need, any, none}
 use Rattle.page_store.specs.Marks.{mark, needs, is_past, is_rooted, stays, IsNeeded, AreCommitted, AreGrown, AreLeft}
 use Rattle.page_store.specs.Page.{page, IsWithin}
 use Rattle.page_store.specs.declared.limits.TheConstants.{MAX_PAGES}
@@ -91,7 +90,7 @@ pub record ClosesByWrites (was : Bool) (before : ℕ) (is : Bool) (now : ℕ) : 
   pub none : is ≡ false → now ≡ before
   pub cause : was ≡ false → is ≡ true → Grew before now
 
--- so over a call of a store
+-- a call closes a store only by a failed write or sync
 abbrev pub StoreCloses : Store → Store → Type 0
 StoreCloses old new = ClosesByWrites old.closed old.disk.failed_writes new.closed new.disk.failed_writes
 

@@ -7,7 +7,7 @@ ghost use Rattle.page_store.specs.Holds.{needed_by};
 ghost use Rattle.page_store.specs.Marks.{mark, is_past, AreSealed, AreDiscarded};
 ghost use Rattle.page_store.specs.Store.{Store, reads, StopLeaves, IsSafe, StoreWorks, Commits, IsRemarked, IsCommitted, IsOpened};
 ghost use Rattle.page_store.specs.Store.{IsHeldBy, IsSoundStore, IsHoldTaken, IsLetGo, StoreGrows, IsStoreGrown};
-ghost use Rattle.page_store.specs.Spelling.{SpelledBy, Stands, StandsHeld, IsPrepared, Spells, IsCarried, IsCarriedGrown, IsCalm, IsBack};
+ghost use Rattle.page_store.specs.Spelled.{SpelledBy, Stands, StandsHeld, IsPrepared, Spells, IsCarried, IsCarriedGrown, IsCalm, IsBack};
 
 /// What the pages of a root spell for a layer above: a chain, a tree, a whole table. Only proofs speak of it.
 pub trait Spelling {

@@ -2,8 +2,8 @@
 ghost use Rattle.std.specs.Prelude.{◌≡◌, ◌≢◌, ◌≤◌, ◌<◌, ℕ, false, length, IfOk, IfSome, IfNone};
 ghost use Rattle.page_store.specs.Marks.{mark as mark_of, turned as turned_of, keeps, let_go as let_go_of, free_one as free_one_of};
 ghost use Rattle.page_store.specs.Marks.{free_count, committed as committed_of, left as left_of};
-ghost use Rattle.page_store.specs.Marks.{AreGrown, AreLeft, is_rooted as is_rooted_of, rests as rests_of};
-ghost use Rattle.page_store.specs.Holds.{needed_by, with_need, any, holders_at};
+ghost use Rattle.page_store.specs.Marks.{AreFreeFrom, AreGrown, AreLeft, is_rooted as is_rooted_of, rests as rests_of};
+ghost use Rattle.page_store.specs.Holds.{none as none_of, needed_by, with_need, any, holders_at};
 ghost use Rattle.page_store.specs.declared.marks.Mark.TheVariants.{Free};
 ghost use Rattle.page_store.specs.declared.limits.TheConstants.{MAX_PAGES};
 
@@ -131,12 +131,13 @@ fn left(mark: Mark, holders: Holders) -> Mark
     }
 }
 
-/// What no hold needs any more, nor the committed root, is free.
-pub fn free_left(marks: &mut Vec<Mark>, holders: &[Holders])
-    requires { length holders.now ≡ length marks.old.items }
+/// What no hold needs any more, nor the committed root, is free. All pages from `high` on are.
+pub fn free_left(marks: &mut Vec<Mark>, holders: &[Holders], high: usize)
+    requires same_length { length holders.now ≡ length marks.old.items }
+    requires free { AreFreeFrom high marks.old.items }
     ensures { AreLeft holders.now marks.old.items marks.new.items }
 {
-    for page in 0..marks.len() {
+    for page in 0..high.min(marks.len()) {
         marks[page] = left(marks[page], holders[page]);
     }
 }
@@ -151,24 +152,27 @@ fn is_rooted(mark: Mark) -> bool
     }
 }
 
-/// This hold needs the pages that the committed root needs.
-pub fn take_hold(holders: &mut Vec<Holders>, place: HoldPlace, marks: &[Mark])
-    requires { length holders.old.items ≡ length marks.now }
+/// This hold needs the pages that the committed root needs. From `high` on all pages are free, and no hold needs them.
+pub fn take_hold(holders: &mut Vec<Holders>, place: HoldPlace, marks: &[Mark], high: usize)
+    requires same_length { length holders.old.items ≡ length marks.now }
+    requires free { AreFreeFrom high marks.now }
+    requires unheld { (p : ℕ) → high ≤ p → holders_at holders.old.items p ≡ none_of }
     ensures same_length { length holders.new.items ≡ length holders.old.items }
     ensures each { (p : ℕ) → p < length marks.now
         → holders_at holders.new.items p ≡ with_need (holders_at holders.old.items p) place (is_rooted_of (mark_of marks.now p)) }
 {
-    for page in 0..holders.len() {
+    for page in 0..high.min(holders.len()) {
         holders[page] = holders[page].with(place, is_rooted(marks[page]));
     }
 }
 
-/// This hold needs no page any more.
-pub fn end_hold(holders: &mut Vec<Holders>, place: HoldPlace)
+/// This hold needs no page any more. From `high` on no hold needs one.
+pub fn end_hold(holders: &mut Vec<Holders>, place: HoldPlace, high: usize)
+    requires { (p : ℕ) → high ≤ p → holders_at holders.old.items p ≡ none_of }
     ensures same_length { length holders.new.items ≡ length holders.old.items }
     ensures each { (p : ℕ) → holders_at holders.new.items p ≡ with_need (holders_at holders.old.items p) place false }
 {
-    for page in 0..holders.len() {
+    for page in 0..high.min(holders.len()) {
         holders[page] = holders[page].with(place, false);
     }
 }
@@ -214,8 +218,8 @@ fn free_one(mark: Mark) -> u32
     }
 }
 
-/// How many pages are free.
-pub fn count_free(marks: &[Mark]) -> u32
+/// How many of these pages are free, one by one.
+fn count_each(marks: &[Mark]) -> u32
     requires { length marks.now ≤ MAX_PAGES }
     ensures { result ≡ free_count marks.now }
 {
@@ -224,4 +228,27 @@ pub fn count_free(marks: &[Mark]) -> u32
         count += free_one(*mark);
     }
     count
+}
+
+/// How many pages are free, where all from `high` on are.
+pub fn count_free(marks: &[Mark], high: usize) -> u32
+    requires few { length marks.now ≤ MAX_PAGES }
+    requires free { AreFreeFrom high marks.now }
+    ensures { result ≡ free_count marks.now }
+{
+    let used = high.min(marks.len());
+    let rest = (marks.len() - used) as u32;
+    count_each(&marks[..used]) + rest
+}
+
+/// From which page on all are free, where they are from `high` on.
+pub fn first_unused(marks: &[Mark], high: usize) -> usize
+    requires { AreFreeFrom high marks.now }
+    ensures { AreFreeFrom result marks.now }
+{
+    let mut unused = high.min(marks.len());
+    while unused > 0 && marks[unused - 1] == Mark::Free {
+        unused -= 1;
+    }
+    unused
 }

@@ -1,9 +1,8 @@
 //! One page, sector by sector.
 ghost use Rattle.std.specs.Prelude.{◌≡◌, ◌≢◌, ◌+◌, ◌*◌, ◌<◌, ◌≤◌, ℕ, OnOk, IsTrue};
-ghost use Rattle.sector_disk.specs.Disk.{sector, size, GoesOn, Keeps, LeavesOnly, MayLeave, HasCause, IsCounted, Steps};
-ghost use Rattle.sector_disk.specs.aid.Disk.{KeepsThroughout};
+ghost use Rattle.sector_disk.specs.Disk.{sector, size, Keeps, HasCause, IsCounted, Steps};
 ghost use Rattle.page_store.specs.Page.{eighth, HasSectors, IsElsewhere};
-ghost use Rattle.page_store.specs.aid.Page.{IsOutside};
+ghost use Rattle.page_store.specs.lemmas.Disk.{IsDiskRead, IsPagePut};
 
 use crate::edit::Span;
 use sector_disk::{DiskFault, SectorDisk};
@@ -16,12 +15,7 @@ pub fn get_page<D: SectorDisk>(
 ) -> Result<(), DiskFault>
     requires { 8 * number + 8 ≤ size (D.disk disk.old) }
     ensures bytes { IsTrue (D.disk disk.old).honest → OnOk result (HasSectors (D.disk disk.old).now.contents number into.new) }
-    ensures unchanged { IsTrue (D.disk disk.old).honest → (D.disk disk.new).now ≡ (D.disk disk.old).now }
-    ensures moments { IsTrue (D.disk disk.old).honest
-        → LeavesOnly (D.disk disk.old) (D.disk disk.new) (MayLeave (D.disk disk.old).now) }
-    ensures time { GoesOn (D.disk disk.old) (D.disk disk.new) }
-    ensures same_size { size (D.disk disk.new) ≡ size (D.disk disk.old) }
-    ensures spared { (D.disk disk.new).failed_writes ≡ (D.disk disk.old).failed_writes }
+    ensures read { IsDiskRead (D.disk disk.old) (D.disk disk.new) }
     ensures cause { HasCause (D.failures disk.old) (D.failures disk.new) result }
 {
     for part in 0..8usize {
@@ -77,9 +71,7 @@ pub fn put_page<D: SectorDisk>(
     ensures written { IsTrue (D.disk disk.old).honest
         → ((k : ℕ) → IsElsewhere span.from span.to k → sector (D.disk disk.old).now.contents (8 * number + k) ≡ eighth k from.now)
         → OnOk result (HasSectors (D.disk disk.new).now.contents number from.now) }
-    ensures kept { IsTrue (D.disk disk.old).honest → KeepsThroughout (IsOutside number) (D.disk disk.old) (D.disk disk.new) }
-    ensures time { GoesOn (D.disk disk.old) (D.disk disk.new) }
-    ensures same_size { size (D.disk disk.new) ≡ size (D.disk disk.old) }
+    ensures put { IsPagePut number (D.disk disk.old) (D.disk disk.new) }
     ensures counted { IsCounted (D.disk disk.old).failed_writes (D.disk disk.new).failed_writes result }
     ensures cause { HasCause (D.failures disk.old) (D.failures disk.new) result }
 {

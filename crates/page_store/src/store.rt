@@ -5,7 +5,7 @@ ghost use Rattle.page_store.specs.Blocks.{AreBlocksNoted};
 ghost use Rattle.page_store.specs.Cache.{IsCacheOf};
 ghost use Rattle.page_store.specs.Causes.{StoreOpenCause};
 ghost use Rattle.page_store.specs.Holds.{holds_of, holders_at, none as none_of};
-ghost use Rattle.page_store.specs.Marks.{mark as mark_of};
+ghost use Rattle.page_store.specs.Marks.{mark as mark_of, AreFreeFrom};
 ghost use Rattle.page_store.specs.Store.{store_of, IsSoundStore, IsOpened, IsRefusedStore};
 
 use crate::blocks::{all_noted, blocks_of, put_mark, turn, turn_committed};
@@ -14,7 +14,8 @@ use crate::edit::{PageEdit, Span};
 use crate::holds::{Hold, Holders};
 use crate::limits::MAX_PAGES;
 use crate::marks::{
-    count_free, end_hold, free_left, grown_holders, grown_marks, is_kept, let_go, take_hold,
+    count_free, end_hold, first_unused, free_left, grown_holders, grown_marks, is_kept, let_go,
+    take_hold,
 };
 use crate::page::{get_page, put_page};
 use crate::room::make_room;
@@ -39,6 +40,8 @@ pub struct PageStore<D: SectorDisk> {
     taken: Holders,
     /// Which holds need each page.
     holders: Vec<Holders>,
+    /// From this page on all are free, so that nobody has to look at them one by one.
+    high: usize,
     /// Where a free page is looked for.
     search: Search,
     /// A write or a sync has failed.
@@ -47,6 +50,7 @@ pub struct PageStore<D: SectorDisk> {
     cache: PageCache,
     ghost sound: { IsSoundStore (store_of (D.disk disk) (D.failures disk) root.bytes marks.items closed (holds_of taken holders.items)) },
     ghost blocks: { AreBlocksNoted marks.items noted.items },
+    ghost unused: { AreFreeFrom high marks.items },
     ghost cached: { IsCacheOf (store_of (D.disk disk) (D.failures disk) root.bytes marks.items closed (holds_of taken holders.items)) cache },
 }
 
@@ -107,6 +111,7 @@ impl<D: SectorDisk> PageStore<D> {
                 noted,
                 taken: Holders::none(),
                 holders,
+                high: capacity as usize,
                 search: Search::new(),
                 closed: false,
                 cache,
@@ -177,6 +182,7 @@ impl<D: SectorDisk> Pages for PageStore<D> {
             Mark::Released,
             Mark::Free,
         );
+        self.high = first_unused(&self.marks, self.high);
         self.cache.clear();
     }
 
@@ -224,6 +230,7 @@ impl<D: SectorDisk> Pages for PageStore<D> {
             None => return Err(PageFault::TableFull),
         };
         put_mark(&mut self.marks, &mut self.noted, page, Mark::Fresh);
+        self.high = self.high.max(page as usize + 1);
         Ok(page)
     }
 
@@ -347,19 +354,19 @@ impl<D: SectorDisk> Pages for PageStore<D> {
             return None;
         };
         self.taken = self.taken.with(place, true);
-        take_hold(&mut self.holders, place, &self.marks);
+        take_hold(&mut self.holders, place, &self.marks, self.high);
         Some(Hold { place })
     }
 
     fn let_go(&mut self, hold: Hold) {
         let Hold { place } = hold;
         self.taken = self.taken.with(place, false);
-        end_hold(&mut self.holders, place);
-        free_left(&mut self.marks, &self.holders);
+        end_hold(&mut self.holders, place, self.high);
+        free_left(&mut self.marks, &self.holders, self.high);
     }
 
     fn free_pages(&self) -> u32 {
-        count_free(&self.marks)
+        count_free(&self.marks, self.high)
     }
 
     fn capacity(&self) -> u32 {

@@ -12,7 +12,8 @@ use Rattle.position_pack.proofs.OrderLemmas.{cmp_parts, same_front}
 
 pub length-bits : (w n : ℕ) → length (bits_of w n) ≡ w
 length-bits zero n = refl
-length-bits (suc w) n = length-append (bits_of w (n / 2)) (n % 2 ∷ []) ∙ (let rest : length (bits_of w (n / 2)) ≡ w = length-bits w (n / 2) in omega (arith, rest))
+length-bits (suc w) n = length-append (bits_of w (n / 2)) (n % 2 ∷ [])
+    ∙ (let rest : length (bits_of w (n / 2)) ≡ w = length-bits w (n / 2) in omega (arith, rest))
 
 pub double : (w : ℕ) → 2 ^ suc w ≡ 2 * 2 ^ w
 double w = omega arith
@@ -55,7 +56,8 @@ bits_cmp zero a b ha hb =
     ap (λ n. nat_cmp n 0) ea ∙ ap (nat_cmp a) eb
 bits_cmp (suc w) a b ha hb =
     cmp_parts (bits_of w (a / 2)) (bits_of w (b / 2)) (a % 2 ∷ []) (b % 2 ∷ []) (length-bits w (a / 2) ∙ sym (length-bits w (b / 2)))
-    ∙ ap (λ o. ordering_then o (ordering_then (nat_cmp (a % 2) (b % 2)) Equal)) (bits_cmp w (a / 2) (b / 2) (omega (arith, ha, double w)) (omega (arith, hb, double w)))
+    ∙ ap (λ o. ordering_then o (ordering_then (nat_cmp (a % 2) (b % 2)) Equal))
+    (bits_cmp w (a / 2) (b / 2) (omega (arith, ha, double w)) (omega (arith, hb, double w)))
     ∙ last_bit a b
 
 -- bits tell their number

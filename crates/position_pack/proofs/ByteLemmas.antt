@@ -150,7 +150,17 @@ length-bytes_from (suc n) xs = ap suc (length-bytes_from n (drop 8 xs))
 
 low_first : (xs : List ℕ) → AreBits xs → first_byte xs < 256
 low_first xs bits =
-    omega (arith, bit_at xs 0 bits, bit_at xs 1 bits, bit_at xs 2 bits, bit_at xs 3 bits, bit_at xs 4 bits, bit_at xs 5 bits, bit_at xs 6 bits, bit_at xs 7 bits)
+    omega (
+      arith,
+      bit_at xs 0 bits,
+      bit_at xs 1 bits,
+      bit_at xs 2 bits,
+      bit_at xs 3 bits,
+      bit_at xs 4 bits,
+      bit_at xs 5 bits,
+      bit_at xs 6 bits,
+      bit_at xs 7 bits,
+    )
 
 pub low_made : (n : ℕ) (xs : List ℕ) → AreBits xs → AreLowBytes (bytes_from n xs)
 low_made zero xs bits = tt
@@ -171,18 +181,22 @@ padded xs bits =
     let n = (length xs + 7) / 8 in
     let z = zeros_behind xs in
     let full = xs ++ replicate z 0 in
-    let long : length full ≡ 8 * n = length-append xs (replicate z 0) ∙ (let e : length (replicate {A = ℕ} z 0) ≡ z = length-replicate z 0 in omega (arith, e)) in
+    let long : length full ≡ 8 * n = length-append xs (replicate z 0)
+    ∙ (let e : length (replicate {A = ℕ} z 0) ≡ z = length-replicate z 0 in omega (arith, e)) in
     ap all_bits (bytes_alike n xs full (no_more xs z)) ∙ bits_again n full (bits_append xs (replicate z 0) bits (are_zeros z)) long
 
 -- bytes whose bits are these and then zeros, fewer than eight, are the bytes of the bits
 pub unpadded : (bs xs : List ℕ) (z : ℕ) → AreLowBytes bs → z < 8 → all_bits bs ≡ xs ++ replicate z 0 → bs ≡ bytes_of_bits xs
 unpadded bs xs z low few e =
-    let many : 8 * length bs ≡ length xs + z = sym (length-all_bits bs) ∙ ap length e ∙ length-append xs (replicate z 0) ∙ ap (λ k. length xs + k) (length-replicate z 0) in
+    let many : 8 * length bs ≡ length xs + z = sym (length-all_bits bs) ∙ ap length e ∙ length-append xs (replicate z 0)
+    ∙ ap (λ k. length xs + k) (length-replicate z 0) in
     let n : length bs ≡ (length xs + 7) / 8 = omega (arith, many, few) in
-    sym (bytes_again bs low) ∙ ap (bytes_from (length bs)) e ∙ sym (bytes_alike (length bs) xs (xs ++ replicate z 0) (no_more xs z)) ∙ ap (λ k. bytes_from k xs) n
+    sym (bytes_again bs low) ∙ ap (bytes_from (length bs)) e ∙ sym (bytes_alike (length bs) xs (xs ++ replicate z 0) (no_more xs z))
+    ∙ ap (λ k. bytes_from k xs) n
 
 -- bytes compare as their bits
-pub bytes_cmp : (bs cs : List ℕ) → AreLowBytes bs → AreLowBytes cs → length bs ≡ length cs → slice_cmp nat_cmp (all_bits bs) (all_bits cs) ≡ slice_cmp nat_cmp bs cs
+pub bytes_cmp : (bs cs : List ℕ) → AreLowBytes bs → AreLowBytes cs → length bs ≡ length cs
+    → slice_cmp nat_cmp (all_bits bs) (all_bits cs) ≡ slice_cmp nat_cmp bs cs
 bytes_cmp [] [] hb hc e = refl
 bytes_cmp [] (c ∷ cs) hb hc e = absurd (omega (arith, e))
 bytes_cmp (b ∷ bs) [] hb hc e = absurd (omega (arith, e))

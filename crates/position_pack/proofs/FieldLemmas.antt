@@ -15,7 +15,7 @@ use Rattle.rbg_game.specs.declared.position.Position.{Position}
 use Rattle.position_pack.specs.Shape.{Shape, IsSmall, Fits}
 use Rattle.position_pack.specs.Fields.{role_code, fields_of}
 use Rattle.position_pack.specs.Bits.{width, bits_of, greatest_of, field_bits, bytes_of_bits, bytes_by_bits}
-use Rattle.position_pack.specs.aid.Bits.{AreAtMost}
+use Rattle.position_pack.specs.lemmas.Bits.{AreAtMost}
 use Rattle.position_pack.proofs.OrderLemmas.{cmp_parts, fields_tell, compared_equal, equal_compared}
 use Rattle.position_pack.proofs.BitLemmas.{length-bits, bits_cmp, fits_width}
 use Rattle.position_pack.proofs.ByteLemmas.{AreBits, bits_append, are_bits, all_bits, padded, zeros_behind, low_made, length-bytes_from, bytes_cmp}
@@ -23,7 +23,8 @@ use Rattle.position_pack.proofs.ByteLemmas.{AreBits, bits_append, are_bits, all_
 pub fields_are_bits : (greatest fields : List ℕ) → AreBits (field_bits greatest fields)
 fields_are_bits [] fields = tt
 fields_are_bits (most ∷ greatest) [] = tt
-fields_are_bits (most ∷ greatest) (x ∷ fields) = bits_append (bits_of (width most) x) (field_bits greatest fields) (are_bits (width most) x) (fields_are_bits greatest fields)
+fields_are_bits (most ∷ greatest) (x ∷ fields) = bits_append (bits_of (width most) x) (field_bits greatest fields) (are_bits (width most) x)
+    (fields_are_bits greatest fields)
 
 pub length-fields : (greatest fields : List ℕ) → length greatest ≡ length fields → length (field_bits greatest fields) ≡ sum_by width greatest
 length-fields [] fields e = refl
@@ -56,8 +57,10 @@ fields_cmp [] [] (y ∷ ys) low hx hy = absurd hy
 fields_cmp (most ∷ greatest) [] ys low hx hy = absurd hx
 fields_cmp (most ∷ greatest) (x ∷ xs) [] low hx hy = absurd hy
 fields_cmp (most ∷ greatest) (x ∷ xs) (y ∷ ys) low hx hy =
-    cmp_parts (bits_of (width most) x) (bits_of (width most) y) (field_bits greatest xs) (field_bits greatest ys) (length-bits (width most) x ∙ sym (length-bits (width most) y))
-    ∙ ap (λ o. ordering_then o (slice_cmp nat_cmp (field_bits greatest xs) (field_bits greatest ys))) (bits_cmp (width most) x y (room x most hx.0 low.0) (room y most hy.0 low.0))
+    cmp_parts (bits_of (width most) x) (bits_of (width most) y) (field_bits greatest xs) (field_bits greatest ys)
+    (length-bits (width most) x ∙ sym (length-bits (width most) y))
+    ∙ ap (λ o. ordering_then o (slice_cmp nat_cmp (field_bits greatest xs) (field_bits greatest ys)))
+    (bits_cmp (width most) x y (room x most hx.0 low.0) (room y most hy.0 low.0))
     ∙ ap (ordering_then (nat_cmp x y)) (fields_cmp greatest xs ys low.1 hx.1 hy.1)
 
 -- ---- the fields of a position
@@ -89,7 +92,8 @@ pub fields_within : (shape : Shape) (at : Position) → Fits shape at → AreAtM
 fields_within shape at fits =
     within_append (replicate shape.vertices (shape.pieces - 1) ++ shape.bounds) _ (at.state.pieces.items ++ at.state.values.items) _
     (within_append (replicate shape.vertices (shape.pieces - 1)) shape.bounds at.state.pieces.items at.state.values.items
-    (within_all shape.vertices (shape.pieces - 1) at.state.pieces.items fits.pieces_fit (λ k lt. (let here = fits.pieces_are k 0 (omega (arith, lt, fits.pieces_fit)) in omega (arith, here))))
+    (within_all shape.vertices (shape.pieces - 1) at.state.pieces.items fits.pieces_fit
+    (λ k lt. (let here = fits.pieces_are k 0 (omega (arith, lt, fits.pieces_fit)) in omega (arith, here))))
     (within_each shape.bounds at.state.values.items fits.values_fit fits.values_are))
     (omega (arith, fits.vertex_is), (low_role at.state.mover, (fits.place_is, tt)))
 
@@ -114,7 +118,8 @@ greatest_words shape small =
 
 pub length-greatest : (shape : Shape) → length (greatest_of shape) ≡ shape.vertices + length shape.bounds + 3
 length-greatest shape =
-    let one : length (greatest_of shape) ≡ length (replicate shape.vertices (shape.pieces - 1) ++ shape.bounds) + 3 = length-append (replicate shape.vertices (shape.pieces - 1) ++ shape.bounds) _ in
+    let one : length (greatest_of shape) ≡ length (replicate shape.vertices (shape.pieces - 1) ++ shape.bounds) + 3 = length-append
+    (replicate shape.vertices (shape.pieces - 1) ++ shape.bounds) _ in
     let two = length-append (replicate shape.vertices (shape.pieces - 1)) shape.bounds in
     let three = length-replicate shape.vertices (shape.pieces - 1) in
     omega (arith, one, two, three)
@@ -124,7 +129,8 @@ length-by_bits shape at fits =
     length-bytes_from _ _ ∙ ap (λ n. (n + 7) / 8) (length-fields (greatest_of shape) (fields_of at) (within_as_many _ _ (fields_within shape at fits)))
 
 -- bytes of bits, of which there are as many, compare as the bits
-made_cmp : (xs ys : List ℕ) → AreBits xs → AreBits ys → length xs ≡ length ys → slice_cmp nat_cmp (bytes_of_bits xs) (bytes_of_bits ys) ≡ slice_cmp nat_cmp xs ys
+made_cmp : (xs ys : List ℕ) → AreBits xs → AreBits ys → length xs ≡ length ys
+    → slice_cmp nat_cmp (bytes_of_bits xs) (bytes_of_bits ys) ≡ slice_cmp nat_cmp xs ys
 made_cmp xs ys hx hy e =
     let z : zeros_behind xs ≡ zeros_behind ys = ap (λ n. 8 * ((n + 7) / 8) - n) e in
     let same = equal_compared (replicate {A = ℕ} (zeros_behind xs) 0) (replicate (zeros_behind ys) 0) (ap (λ n. replicate {A = ℕ} n 0) z) in
@@ -140,15 +146,18 @@ made_cmp xs ys hx hy e =
     then_equal Greater = refl
 
 -- the order of the bytes is that of the fields
-pub bits_order : (shape : Shape) (x y : Position) → IsSmall shape → Fits shape x → Fits shape y → slice_cmp nat_cmp (bytes_by_bits shape x) (bytes_by_bits shape y) ≡ slice_cmp nat_cmp (fields_of x) (fields_of y)
+pub bits_order : (shape : Shape) (x y : Position) → IsSmall shape → Fits shape x → Fits shape y
+    → slice_cmp nat_cmp (bytes_by_bits shape x) (bytes_by_bits shape y) ≡ slice_cmp nat_cmp (fields_of x) (fields_of y)
 bits_order shape x y small fx fy =
     let wx = fields_within shape x fx in
     let wy = fields_within shape y fy in
-    let many = length-fields (greatest_of shape) (fields_of x) (within_as_many _ _ wx) ∙ sym (length-fields (greatest_of shape) (fields_of y) (within_as_many _ _ wy)) in
+    let many = length-fields (greatest_of shape) (fields_of x) (within_as_many _ _ wx)
+    ∙ sym (length-fields (greatest_of shape) (fields_of y) (within_as_many _ _ wy)) in
     made_cmp _ _ (fields_are_bits (greatest_of shape) (fields_of x)) (fields_are_bits (greatest_of shape) (fields_of y)) many
     ∙ fields_cmp (greatest_of shape) (fields_of x) (fields_of y) (greatest_words shape small) wx wy
 
 -- the bytes tell the position
 pub bits_told : (shape : Shape) (x y : Position) → IsSmall shape → Fits shape x → Fits shape y → bytes_by_bits shape x ≡ bytes_by_bits shape y → x ≡ y
 bits_told shape x y small fx fy same =
-    fields_tell shape x y fx fy (compared_equal (fields_of x) (fields_of y) (sym (bits_order shape x y small fx fy) ∙ equal_compared (bytes_by_bits shape x) (bytes_by_bits shape y) same))
+    fields_tell shape x y fx fy (compared_equal (fields_of x) (fields_of y)
+    (sym (bits_order shape x y small fx fy) ∙ equal_compared (bytes_by_bits shape x) (bytes_by_bits shape y) same))

@@ -11,7 +11,7 @@ use Rattle.rbg_game.specs.declared.position.Position.{Position}
 use Rattle.position_pack.specs.Shape.{Shape, IsSmall, Fits}
 use Rattle.position_pack.specs.Fields.{fields_of}
 use Rattle.position_pack.specs.Bits.{width, bits_of, greatest_of, field_bits, bytes_by_bits, number_at, field_at}
-use Rattle.position_pack.specs.aid.Bits.{AreAtMost}
+use Rattle.position_pack.specs.lemmas.Bits.{AreAtMost}
 use Rattle.position_pack.proofs.BitLemmas.{length-bits, fits_width, double}
 use Rattle.position_pack.proofs.ByteLemmas.{all_bits, length-all_bits, padded, zeros_behind}
 use Rattle.position_pack.proofs.FieldLemmas.{fields_are_bits, fields_within, greatest_words, AreWords}
@@ -31,7 +31,8 @@ drop_behind (x ∷ xs) ys n =
 
 -- a field among the bits of all
 field_there : (greatest xs zs : List ℕ) (k : ℕ) → AreAtMost greatest xs → k < length xs
-    → take (width (get_or greatest k 0)) (drop (sum_by width (take k greatest)) (field_bits greatest xs ++ zs)) ≡ bits_of (width (get_or greatest k 0)) (get_or xs k 0)
+    → take (width (get_or greatest k 0)) (drop (sum_by width (take k greatest)) (field_bits greatest xs ++ zs)) ≡ bits_of
+    (width (get_or greatest k 0)) (get_or xs k 0)
 field_there [] [] zs k h lt = absurd (omega (arith, lt))
 field_there [] (x ∷ xs) zs k h lt = absurd h
 field_there (m ∷ greatest) [] zs k h lt = absurd h
@@ -45,7 +46,8 @@ field_there (m ∷ greatest) (x ∷ xs) zs (suc k) h lt =
     sum_by-cons width m (take k greatest) ∙ ap (λ n. n + sum_by width (take k greatest)) (sym (length-bits (width m) x)) in
     let w = width (get_or greatest k 0) in
     ap (λ n. take w (drop n ((bits_of (width m) x ++ field_bits greatest xs) ++ zs))) place
-    ∙ ap (λ bs. take w (drop (length (bits_of (width m) x) + sum_by width (take k greatest)) bs)) (append_assoc (bits_of (width m) x) (field_bits greatest xs) zs)
+    ∙ ap (λ bs. take w (drop (length (bits_of (width m) x) + sum_by width (take k greatest)) bs))
+    (append_assoc (bits_of (width m) x) (field_bits greatest xs) zs)
     ∙ ap (take w) (drop_behind (bits_of (width m) x) (field_bits greatest xs ++ zs) (sum_by width (take k greatest)))
     ∙ field_there greatest xs zs k h.1 (omega (arith, lt))
 
@@ -57,12 +59,14 @@ field_low (m ∷ greatest) (x ∷ xs) zero word h lt = let fits : m < 2 ^ width 
 field_low (m ∷ greatest) (x ∷ xs) (suc k) word h lt = field_low greatest xs k word.1 h.1 (omega (arith, lt))
 
 -- a field of a position is read from its bytes
-pub field_is : (shape : Shape) (at : Position) (k : ℕ) → IsSmall shape → Fits shape at → k < length (fields_of at) → field_at shape k (bytes_by_bits shape at) ≡ get_or (fields_of at) k 0
+pub field_is : (shape : Shape) (at : Position) (k : ℕ) → IsSmall shape → Fits shape at → k < length (fields_of at)
+    → field_at shape k (bytes_by_bits shape at) ≡ get_or (fields_of at) k 0
 field_is shape at k small fits lt =
     let greatest = greatest_of shape in
     let xs = fields_of at in
     let within = fields_within shape at fits in
-    ap (λ bs. number_from_digits 2 (take (width (get_or greatest k 0)) (drop (sum_by width (take k greatest)) bs))) (padded (field_bits greatest xs) (fields_are_bits greatest xs))
+    ap (λ bs. number_from_digits 2 (take (width (get_or greatest k 0)) (drop (sum_by width (take k greatest)) bs)))
+    (padded (field_bits greatest xs) (fields_are_bits greatest xs))
     ∙ ap (number_from_digits 2) (field_there greatest xs (replicate (zeros_behind (field_bits greatest xs)) 0) k within lt)
     ∙ number_back (width (get_or greatest k 0)) (get_or xs k 0) (field_low greatest xs k (greatest_words shape small) within lt)
 
@@ -80,13 +84,15 @@ bit_of_byte b (suc (suc (suc (suc (suc (suc (suc zero))))))) lt low = omega arit
 bit_of_byte b (suc (suc (suc (suc (suc (suc (suc (suc r)))))))) lt low = absurd (omega (arith, lt))
 
 -- a bit of the bytes
-pub bit_is : (bytes : List ℕ) (i : ℕ) → i / 8 < length bytes → get_or bytes (i / 8) 0 < 256 → get_or (all_bits bytes) i 0 ≡ get_or bytes (i / 8) 0 / 2 ^ (7 - i % 8) % 2
+pub bit_is : (bytes : List ℕ) (i : ℕ) → i / 8 < length bytes → get_or bytes (i / 8) 0 < 256
+    → get_or (all_bits bytes) i 0 ≡ get_or bytes (i / 8) 0 / 2 ^ (7 - i % 8) % 2
 bit_is bytes i lt low =
     let q = i / 8 in
     let r = i % 8 in
     let before : length (all_bits (take q bytes)) ≡ 8 * q = length-all_bits (take q bytes) ∙ ap (λ n. 8 * n) (length-take-le q bytes (omega (arith, lt))) in
     let place : i ≡ length (all_bits (take q bytes)) + r = omega (arith, before) in
-    ap (λ n. get_or (all_bits bytes) n 0) place ∙ get_or-flat_map (bits_of 8) bytes q r 0 0 lt (omega arith) ∙ bit_of_byte (get_or bytes q 0) r (omega arith) low
+    ap (λ n. get_or (all_bits bytes) n 0) place ∙ get_or-flat_map (bits_of 8) bytes q r 0 0 lt (omega arith)
+    ∙ bit_of_byte (get_or bytes q 0) r (omega arith) low
 
 -- one more bit is read
 pub bit_more : (bytes : List ℕ) (place i j : ℕ) → i ≡ place + j → i / 8 < length bytes → get_or bytes (i / 8) 0 < 256
@@ -104,4 +110,5 @@ bit_none bytes place i j at past =
     let bits = all_bits bytes in
     let all = length-all_bits bytes in
     let short = length-drop place bits in
-    ap (number_from_digits 2) (take_all (j + 1) (drop place bits) (omega (arith, at, past, all, short)) ∙ sym (take_all j (drop place bits) (omega (arith, at, past, all, short))))
+    ap (number_from_digits 2) (take_all (j + 1) (drop place bits) (omega (arith, at, past, all, short))
+    ∙ sym (take_all j (drop place bits) (omega (arith, at, past, all, short))))

@@ -15,7 +15,8 @@ use Rattle.position_pack.proofs.OrderLemmas.{order, tell}
 use Rattle.position_pack.proofs.FieldLemmas.{bits_order, bits_told, length-by_bits}
 
 -- the bytes tell the position
-pub packed_tell : (kind : PackingKind) (shape : Shape) (x y : Position) → IsSmall shape → Fits shape x → Fits shape y → packed_by kind shape x ≡ packed_by kind shape y → x ≡ y
+pub packed_tell : (kind : PackingKind) (shape : Shape) (x y : Position) → IsSmall shape → Fits shape x → Fits shape y
+    → packed_by kind shape x ≡ packed_by kind shape y → x ≡ y
 packed_tell Bytes shape x y = tell shape x y
 packed_tell Bits shape x y = bits_told shape x y
 

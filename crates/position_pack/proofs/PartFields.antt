@@ -13,7 +13,7 @@ use Rattle.position_pack.specs.Shape.{Shape, IsSmall, Fits}
 use Rattle.position_pack.specs.Fields.{role_code, fields_of}
 use Rattle.position_pack.specs.Bits.{width, greatest_of}
 use Rattle.position_pack.specs.Packings.{IsPacked}
-use Rattle.position_pack.specs.aid.Bits.{AreAtMost, AreFields, AreInRange, IsFieldsOf}
+use Rattle.position_pack.specs.lemmas.Bits.{AreAtMost, AreFields, AreInRange, IsFieldsOf}
 use Rattle.position_pack.proofs.BitLemmas.{width_least}
 use Rattle.position_pack.proofs.FieldLemmas.{within_as_many, fields_within, length-greatest}
 
@@ -41,7 +41,8 @@ all_within (suc n) pieces (x ∷ xs) some h = more (omega (arith, h.0, some)) (a
     more first others (suc k) d lt = others k d (omega (arith, lt))
 
 -- a position whose fields are within their greatest values
-fits_of : (shape : Shape) (at : Position) → 0 < shape.pieces → 0 < shape.vertices → length at.state.pieces.items ≡ shape.vertices → AreAtMost (greatest_of shape) (fields_of at) → Fits shape at
+fits_of : (shape : Shape) (at : Position) → 0 < shape.pieces → 0 < shape.vertices → length at.state.pieces.items ≡ shape.vertices
+    → AreAtMost (greatest_of shape) (fields_of at) → Fits shape at
 fits_of shape at some_pieces some_vertices many within =
     let front = replicate shape.vertices (shape.pieces - 1) in
     let all = within_as_many (greatest_of shape) (fields_of at) within in
@@ -50,7 +51,8 @@ fits_of shape at some_pieces some_vertices many within =
     let two = length-append at.state.pieces.items at.state.values.items in
     let one = length-append front shape.bounds in
     let vertices = length-replicate shape.vertices (shape.pieces - 1) in
-    let outer = within_split (front ++ shape.bounds) _ (at.state.pieces.items ++ at.state.values.items) _ (omega (arith, all, greatest, three, one, vertices)) within in
+    let outer = within_split (front ++ shape.bounds) _ (at.state.pieces.items ++ at.state.values.items) _
+    (omega (arith, all, greatest, three, one, vertices)) within in
     let inner = within_split front shape.bounds at.state.pieces.items at.state.values.items (omega (arith, vertices, many)) outer.0 in
     record {
       pieces_fit = many;
@@ -83,15 +85,19 @@ few_fields shape fields small within =
     let greatest = length-greatest shape in
     let vertices = length-replicate shape.vertices (shape.pieces - 1) in
     let one : length (front ++ shape.bounds) ≡ length front + length shape.bounds = length-append front shape.bounds in
-    let first : get_or (greatest_of shape) (length fields - 3) 0 ≡ shape.vertices - 1 = at_back (front ++ shape.bounds) last (length fields - 3) 0 (omega (arith, all, greatest, one, vertices)) in
-    let second : get_or (greatest_of shape) (length fields - 2) 0 ≡ 2 = at_back (front ++ shape.bounds) last (length fields - 2) 1 (omega (arith, all, greatest, one, vertices)) in
-    let third : get_or (greatest_of shape) (length fields - 1) 0 ≡ shape.actions = at_back (front ++ shape.bounds) last (length fields - 1) 2 (omega (arith, all, greatest, one, vertices)) in
+    let first : get_or (greatest_of shape) (length fields - 3) 0 ≡ shape.vertices - 1 = at_back (front ++ shape.bounds) last
+    (length fields - 3) 0 (omega (arith, all, greatest, one, vertices)) in
+    let second : get_or (greatest_of shape) (length fields - 2) 0 ≡ 2 = at_back (front ++ shape.bounds) last (length fields - 2) 1
+    (omega (arith, all, greatest, one, vertices)) in
+    let third : get_or (greatest_of shape) (length fields - 1) 0 ≡ shape.actions = at_back (front ++ shape.bounds) last
+    (length fields - 1) 2 (omega (arith, all, greatest, one, vertices)) in
     record {
       few_vertices = small.few_vertices;
       long = omega (arith, all, greatest);
       few_values = omega (arith, all, greatest, small.few_values);
       pieces = λ k lt.
-          let here : get_or (greatest_of shape) k 0 ≡ get_or front k 0 = at_front (front ++ shape.bounds) last k (omega (arith, lt, one, vertices)) ∙ at_front front shape.bounds k (omega (arith, lt, vertices)) in
+          let here : get_or (greatest_of shape) k 0 ≡ get_or front k 0 = at_front (front ++ shape.bounds) last k
+          (omega (arith, lt, one, vertices)) ∙ at_front front shape.bounds k (omega (arith, lt, vertices)) in
           let low : get_or front k 0 ≤ shape.pieces - 1 = at_replicate shape.vertices (shape.pieces - 1) k in
           omega (arith, within_at (greatest_of shape) fields k within, here, low, small.few_pieces);
       vertex = omega (arith, within_at (greatest_of shape) fields (length fields - 3) within, first, small.few_vertices);
@@ -125,11 +131,13 @@ few_bits shape small =
     value k d lt = width_least (get_or shape.bounds k d) 20 (omega (arith, small.low_bounds k lt, get_or_default shape.bounds k d 0 lt))
 
 -- the fields of a position that these bytes pack
-pub are_fields : (shape : Shape) (at : Position) (bytes : List ℕ) → IsPacked (record { kind = Bits; shape = shape }) at bytes → AreFields (greatest_of shape) bytes (fields_of at)
+pub are_fields : (shape : Shape) (at : Position) (bytes : List ℕ) → IsPacked (record { kind = Bits; shape = shape }) at bytes
+    → AreFields (greatest_of shape) bytes (fields_of at)
 are_fields shape at bytes is = record { within = fields_within shape at is.fits; bytes_are = is.bytes_are }
 
 -- the position of the fields that these bytes pack
-pub is_packed : (shape : Shape) (at : Position) (bytes fields : List ℕ) → 0 < shape.pieces → 0 < shape.vertices → AreFields (greatest_of shape) bytes fields → IsFieldsOf shape.vertices fields at
+pub is_packed : (shape : Shape) (at : Position) (bytes fields : List ℕ) → 0 < shape.pieces → 0 < shape.vertices
+    → AreFields (greatest_of shape) bytes fields → IsFieldsOf shape.vertices fields at
     → IsPacked (record { kind = Bits; shape = shape }) at bytes
 is_packed shape at bytes fields some_pieces some_vertices are of_at =
     let here : AreFields (greatest_of shape) bytes (fields_of at) = subst (AreFields (greatest_of shape) bytes) (sym of_at.fields_are) are in

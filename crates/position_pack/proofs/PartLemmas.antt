@@ -6,7 +6,7 @@ use Rattle.rbg_game.specs.declared.position.Position.{Position}
 use Rattle.position_pack.specs.Shape.{Shape, Fits}
 use Rattle.position_pack.specs.Fields.{role_code}
 use Rattle.position_pack.specs.Bytes.{bytes_of}
-use Rattle.position_pack.specs.aid.Bytes.{AreValues}
+use Rattle.position_pack.specs.lemmas.Bytes.{AreValues}
 use Rattle.position_pack.proofs.ValueBytes.{spelled, spelled-cons}
 
 pub length-spelled : (vs : List ℕ) → length (spelled vs) ≡ 3 * length vs
@@ -45,7 +45,8 @@ parts_of shape at bytes is =
     let many : length b ≡ 3 * length shape.bounds = length-spelled at.state.values.items ∙ ap (λ n. 3 * n) is.fits.values_fit in
     let cut : drop shape.vertices bytes ≡ b ++ c = ap (λ n. drop n bytes) (sym is.fits.pieces_fit) ∙ ap (drop (length a)) whole ∙ back a (b ++ c) in
     record {
-      as_many = ap length whole ∙ (let e : length (a ++ (b ++ c)) ≡ length a + (length b + 4) = length-append a (b ++ c) ∙ ap (λ n. length a + n) (length-append b c) in omega (arith, e, many, is.fits.pieces_fit));
+      as_many = ap length whole ∙ (let e : length (a ++ (b ++ c)) ≡ length a + (length b + 4) = length-append a (b ++ c)
+          ∙ ap (λ n. length a + n) (length-append b c) in omega (arith, e, many, is.fits.pieces_fit));
       pieces = ap (λ n. take n bytes) (sym is.fits.pieces_fit) ∙ ap (take (length a)) whole ∙ front a (b ++ c);
       values = ap (take (3 * length shape.bounds)) cut ∙ ap (λ n. take n (b ++ c)) (sym many) ∙ front b c;
       others = ap (drop (3 * length shape.bounds)) cut ∙ ap (λ n. drop n (b ++ c)) (sym many) ∙ back b c;
@@ -54,7 +55,8 @@ parts_of shape at bytes is =
 -- the bytes from their parts
 pub joined : (m n : ℕ) (bytes a b c : List ℕ) → take m bytes ≡ a → take n (drop m bytes) ≡ b → drop n (drop m bytes) ≡ c → bytes ≡ a ++ b ++ c
 joined m n bytes a b c ea eb ec =
-    sym (take-append-drop m bytes) ∙ ap (λ y. take m bytes ++ y) (sym (take-append-drop n (drop m bytes))) ∙ sym (append_assoc (take m bytes) (take n (drop m bytes)) (drop n (drop m bytes)))
+    sym (take-append-drop m bytes) ∙ ap (λ y. take m bytes ++ y) (sym (take-append-drop n (drop m bytes)))
+    ∙ sym (append_assoc (take m bytes) (take n (drop m bytes)) (drop n (drop m bytes)))
     ∙ ap (λ y. y ++ take n (drop m bytes) ++ drop n (drop m bytes)) ea ∙ ap (λ y. a ++ y ++ drop n (drop m bytes)) eb ∙ ap (λ y. a ++ b ++ y) ec
 
 -- bytes cut where the parts of a position end
@@ -63,7 +65,8 @@ pub record Cut (shape : Shape) (bytes p v o : List ℕ) : Type 0 where
   pub values : v ≡ take (3 * length shape.bounds) (drop shape.vertices bytes)
   pub others : o ≡ drop (3 * length shape.bounds) (drop shape.vertices bytes)
 
-pub cut_at : (shape : Shape) (bytes p r v o : List ℕ) (m n : ℕ) → m ≡ shape.vertices → n ≡ length shape.bounds → p ≡ take m bytes → r ≡ drop m bytes → v ≡ take (3 * n) r → o ≡ drop (3 * n) r
+pub cut_at : (shape : Shape) (bytes p r v o : List ℕ) (m n : ℕ) → m ≡ shape.vertices → n ≡ length shape.bounds → p ≡ take m bytes
+    → r ≡ drop m bytes → v ≡ take (3 * n) r → o ≡ drop (3 * n) r
     → Cut shape bytes p v o
 cut_at shape bytes p r v o m n em en ep er ev eo =
     record {
@@ -106,13 +109,17 @@ four_of (w ∷ x ∷ y ∷ z ∷ []) a b c d e ea eb ec ed = rw (ea, eb, ec, ed)
 four_of (w ∷ x ∷ y ∷ z ∷ q ∷ o) a b c d e ea eb ec ed = absurd (omega (arith, e))
 
 -- the bytes of the position that was put together from the parts
-pub made : (shape : Shape) (bytes p v o : List ℕ) → Cut shape bytes p v o → (at : Position) → ((i : ℕ) → get_or o i 0 < 256) → length bytes ≡ shape.vertices + 3 * length shape.bounds + 4
-    → at.state.pieces.items ≡ p → AreValues v shape.bounds at.state.values.items → at.state.vertex ≡ get_or o 0 0 → get_or o 1 0 ≡ role_code at.state.mover → at.place ≡ get_or o 2 0 * 256 + get_or o 3 0
+pub made : (shape : Shape) (bytes p v o : List ℕ) → Cut shape bytes p v o → (at : Position) → ((i : ℕ) → get_or o i 0 < 256)
+    → length bytes ≡ shape.vertices + 3 * length shape.bounds + 4
+    → at.state.pieces.items ≡ p → AreValues v shape.bounds at.state.values.items → at.state.vertex ≡ get_or o 0 0
+    → get_or o 1 0 ≡ role_code at.state.mover → at.place ≡ get_or o 2 0 * 256 + get_or o 3 0
     → All (λ x. x < shape.pieces) p → at.state.vertex < shape.vertices → at.place ≤ shape.actions → AreBytes shape at bytes
 made shape bytes p v o cut at small as_many pieces values vertex role place below vertex_is place_is =
-    let long : length p ≡ shape.vertices = ap length cut.pieces ∙ (let h : shape.vertices ≤ length bytes = omega arith in length-take-le shape.vertices bytes h) in
+    let long : length p ≡ shape.vertices = ap length cut.pieces
+    ∙ (let h : shape.vertices ≤ length bytes = omega arith in length-take-le shape.vertices bytes h) in
     let place_bytes = two_bytes _ _ at.place (small 2) (small 3) place in
-    let four : length o ≡ 4 = ap length cut.others ∙ length-drop _ (drop shape.vertices bytes) ∙ (let e : length (drop shape.vertices bytes) ≡ length bytes - shape.vertices = length-drop shape.vertices bytes in omega (arith, e, as_many)) in
+    let four : length o ≡ 4 = ap length cut.others ∙ length-drop _ (drop shape.vertices bytes)
+    ∙ (let e : length (drop shape.vertices bytes) ≡ length bytes - shape.vertices = length-drop shape.vertices bytes in omega (arith, e, as_many)) in
     let last : o ≡ last_bytes at = four_of o _ _ _ _ four (sym vertex) role place_bytes.0 place_bytes.1 in
     record {
       fits = record {
@@ -123,7 +130,8 @@ made shape bytes p v o cut at small as_many pieces values vertex role place belo
         vertex_is = vertex_is;
         place_is = place_is;
       };
-      bytes_are = joined shape.vertices (3 * length shape.bounds) bytes _ _ _ (sym cut.pieces ∙ sym pieces) (sym cut.values ∙ values.bytes_are) (sym cut.others ∙ last);
+      bytes_are = joined shape.vertices (3 * length shape.bounds) bytes _ _ _ (sym cut.pieces ∙ sym pieces)
+          (sym cut.values ∙ values.bytes_are) (sym cut.others ∙ last);
     }
 
 pub small_others : (shape : Shape) (bytes p v o : List ℕ) → Cut shape bytes p v o → ((i : ℕ) → get_or bytes i 0 < 256) → (i : ℕ) → get_or o i 0 < 256

@@ -31,7 +31,8 @@ small_shape game sound = record {
   low_bounds = λ k lt. low game.variables sound.bounds_fit k lt;
 }
   where
-    low : (all : List Bounded) → All (λ v. v.bound ≤ 1000000) all → (k : ℕ) → k < length (map (λ v. v.bound) all) → get_or (map (λ v. v.bound) all) k 0 ≤ 1000000
+    low : (all : List Bounded) → All (λ v. v.bound ≤ 1000000) all → (k : ℕ) → k < length (map (λ v. v.bound) all)
+        → get_or (map (λ v. v.bound) all) k 0 ≤ 1000000
     low all fit k lt =
         let none : Bounded = record { name = []; bound = 0 } in
         let here : k < length all = omega (arith, lt, length-map all (λ v. v.bound)) in

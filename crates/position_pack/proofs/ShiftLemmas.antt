@@ -75,11 +75,13 @@ length-written bs count held =
     length-append (all_bits bs) (bits_of count held) ∙ omega (arith, one, two)
 
 -- the last bits and zeros
-pub last_out : (bs cs : List ℕ) (count k held n : ℕ) → count + k ≡ 8 → k < 8 → n ≡ held * 2 ^ k → cs ≡ bs ++ n ∷ [] → AreLowBytes cs → cs ≡ bytes_of_bits (all_bits bs ++ bits_of count held)
+pub last_out : (bs cs : List ℕ) (count k held n : ℕ) → count + k ≡ 8 → k < 8 → n ≡ held * 2 ^ k → cs ≡ bs ++ n ∷ [] → AreLowBytes cs
+    → cs ≡ bytes_of_bits (all_bits bs ++ bits_of count held)
 last_out bs cs count k held n many few is made low =
     let number : n ≡ held * 2 ^ k + 0 = omega (arith, is) in
     let byte : bits_of 8 n ≡ bits_of count held ++ replicate k 0 =
-    ap (bits_of 8) number ∙ ap (λ c. bits_of c (held * 2 ^ k + 0)) (sym many) ∙ bits_more count k held 0 (power_positive k) ∙ ap (λ xs. bits_of count held ++ xs) (bits-zero k) in
+    ap (bits_of 8) number ∙ ap (λ c. bits_of c (held * 2 ^ k + 0)) (sym many) ∙ bits_more count k held 0 (power_positive k)
+    ∙ ap (λ xs. bits_of count held ++ xs) (bits-zero k) in
     unpadded cs (all_bits bs ++ bits_of count held) k low few
     (ap all_bits made ∙ byte_behind bs n ∙ ap (λ xs. all_bits bs ++ xs) byte ∙ sym (append_assoc (all_bits bs) (bits_of count held) (replicate k 0)))
 
@@ -89,15 +91,18 @@ none_out bs held low = unpadded bs (all_bits bs ++ []) 0 low (omega arith) (sym 
 -- ---- reading
 
 -- one more byte is held
-pub byte_in : (bs : List ℕ) (next count held b : ℕ) (all : List ℕ) → next < length bs → b ≡ get_or bs next 0 → b < 256 → bits_of count held ++ all_bits (drop next bs) ≡ all
+pub byte_in : (bs : List ℕ) (next count held b : ℕ) (all : List ℕ) → next < length bs → b ≡ get_or bs next 0 → b < 256 → bits_of count held
+    ++ all_bits (drop next bs) ≡ all
     → bits_of (count + 8) (held * 256 + b) ++ all_bits (drop (next + 1) bs) ≡ all
 byte_in bs next count held b all lt is low before =
     let rest = all_bits (drop (next + 1) bs) in
     ap (λ xs. xs ++ rest) (bits_more count 8 held b low) ∙ append_assoc (bits_of count held) (bits_of 8 b) rest
-    ∙ ap (λ n. bits_of count held ++ (bits_of 8 n ++ rest)) is ∙ ap (λ xs. bits_of count held ++ xs) (sym (all_bits-cons (get_or bs next 0) (drop (next + 1) bs)))
+    ∙ ap (λ n. bits_of count held ++ (bits_of 8 n ++ rest)) is
+    ∙ ap (λ xs. bits_of count held ++ xs) (sym (all_bits-cons (get_or bs next 0) (drop (next + 1) bs)))
     ∙ ap (λ xs. bits_of count held ++ all_bits xs) (sym (drop_more bs next 0 lt)) ∙ before
 
-pub length-left : (bs : List ℕ) (next count held : ℕ) → next ≤ length bs → length (bits_of count held ++ all_bits (drop next bs)) ≡ count + 8 * (length bs - next)
+pub length-left : (bs : List ℕ) (next count held : ℕ) → next ≤ length bs
+    → length (bits_of count held ++ all_bits (drop next bs)) ≡ count + 8 * (length bs - next)
 length-left bs next count held le =
     let one = length-bits count held in
     let two = length-all_bits (drop next bs) in
@@ -105,6 +110,7 @@ length-left bs next count held le =
     length-append (bits_of count held) (all_bits (drop next bs)) ∙ omega (arith, one, two, three)
 
 -- the value of the first bits of those that are held
-pub value_out : (w k count held : ℕ) (rest : List ℕ) → count ≡ w + k → bits_of count held ++ rest ≡ bits_of w (held / 2 ^ k) ++ (bits_of k (held % 2 ^ k) ++ rest)
+pub value_out : (w k count held : ℕ) (rest : List ℕ) → count ≡ w + k → bits_of count held ++ rest ≡ bits_of w (held / 2 ^ k)
+    ++ (bits_of k (held % 2 ^ k) ++ rest)
 value_out w k count held rest many =
     ap (λ c. bits_of c held ++ rest) many ∙ ap (λ xs. xs ++ rest) (bits_cut w k held) ∙ append_assoc (bits_of w (held / 2 ^ k)) (bits_of k (held % 2 ^ k)) rest

@@ -11,7 +11,7 @@ use Rattle.rbg_game.specs.Names.{HasProperNames}
 use Rattle.rbg_game.specs.declared.position.Position.{Position}
 use Rattle.position_pack.specs.Texts.{piece_name, vertex_name, role_text, with_commas}
 use Rattle.position_pack.specs.Spelled.{IsSpelled}
-use Rattle.position_pack.specs.aid.Spelled.{AreWords, IsDecimal, IsVertex, ArePieces, AreNumbers}
+use Rattle.position_pack.specs.lemmas.Spelled.{AreWords, IsDecimal, IsVertex, ArePieces, AreNumbers}
 use Rattle.position_pack.proofs.ShapeLemmas.{small_shape, bound_is}
 use Rattle.position_pack.proofs.TellLemmas.{Lacks, lacks, before, digits_lack, role_lacks, vertex_lacks, pieces_space, place_low, nested}
 
@@ -41,7 +41,8 @@ decimal_comma game sound k x lt le = digits_lack 44 (omega arith) x (omega (arit
 
 module _ (game : Game) (sound : IsSoundGame game) (proper : HasProperNames game) (at : Position) (text : List ℕ) where
   -- the text of a position has five words
-  pub has_words : IsSpelled game at text → AreWords text (role_text game at.state.mover) (decimal at.place) (vertex_name game at.state.vertex) (with_commas (map (piece_name game) at.state.pieces.items)) (with_commas (map decimal at.state.values.items))
+  pub has_words : IsSpelled game at text → AreWords text (role_text game at.state.mover) (decimal at.place)
+      (vertex_name game at.state.vertex) (with_commas (map (piece_name game) at.state.pieces.items)) (with_commas (map decimal at.state.values.items))
   has_words is = record {
     role_lacks = all_lack 32 _ (role_lacks game sound proper at.state.mover);
     place_lacks = all_lack 32 _ (digits_lack 32 (omega arith) at.place (place_low game sound proper at is.position));
@@ -73,7 +74,8 @@ module _ (game : Game) (sound : IsSoundGame game) (proper : HasProperNames game)
     position = record {
       state_is = record {
         pieces_fit = parts.pieces_are.as_many;
-        pieces_are = All-from_get_or (λ x. x < length game.pieces) at.state.pieces.items 0 (λ k lt. parts.pieces_are.allowed k (omega (arith, lt, parts.pieces_are.as_many)));
+        pieces_are = All-from_get_or (λ x. x < length game.pieces) at.state.pieces.items 0
+            (λ k lt. parts.pieces_are.allowed k (omega (arith, lt, parts.pieces_are.as_many)));
         values_fit = parts.values_are.as_many;
         values_are = λ k lt. parts.values_are.allowed k (omega (arith, lt, parts.values_are.as_many));
         vertex_is = parts.vertex_is.allowed;
@@ -84,5 +86,8 @@ module _ (game : Game) (sound : IsSoundGame game) (proper : HasProperNames game)
   }
     where
       same : a ++ (32 ∷ (b ++ (32 ∷ (c ++ (32 ∷ (d ++ 32 ∷ e))))))
-          ≡ role_text game at.state.mover ++ (32 ∷ (decimal at.place ++ (32 ∷ (vertex_name game at.state.vertex ++ (32 ∷ (with_commas (map (piece_name game) at.state.pieces.items) ++ 32 ∷ with_commas (map decimal at.state.values.items)))))))
+          ≡ role_text game at.state.mover ++
+          (32 ∷ (decimal at.place ++ (32 ∷
+          (vertex_name game at.state.vertex ++
+          (32 ∷ (with_commas (map (piece_name game) at.state.pieces.items) ++ 32 ∷ with_commas (map decimal at.state.values.items)))))))
       same = rw (parts.role_is, parts.place_is.text_is, parts.vertex_is.text_is, parts.pieces_are.text_is, parts.values_are.text_is) refl

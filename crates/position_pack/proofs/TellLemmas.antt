@@ -49,7 +49,8 @@ abbrev EachLacks : ℕ → List (List ℕ) → Type 0
 EachLacks c [] = ⊤
 EachLacks c (x ∷ xs) = Lacks c x × EachLacks c xs
 
-commas_tell : (a b : List ℕ) (xs ys : List (List ℕ)) → Lacks 44 a → Lacks 44 b → EachLacks 44 xs → EachLacks 44 ys → length xs ≡ length ys → a ++ commas xs ≡ b ++ commas ys → (a ≡ b) × (xs ≡ ys)
+commas_tell : (a b : List ℕ) (xs ys : List (List ℕ)) → Lacks 44 a → Lacks 44 b → EachLacks 44 xs → EachLacks 44 ys → length xs ≡ length ys
+    → a ++ commas xs ≡ b ++ commas ys → (a ≡ b) × (xs ≡ ys)
 commas_tell a b [] [] ha hb hx hy e same = (sym (append-nil a) ∙ same ∙ append-nil b, refl)
 commas_tell a b [] (y ∷ ys) ha hb hx hy e same = absurd (omega (arith, e))
 commas_tell a b (x ∷ xs) [] ha hb hx hy e same = absurd (omega (arith, e))
@@ -135,7 +136,8 @@ map_lacks c f [] h = tt
 map_lacks c f (x ∷ xs) h = (h 0 (omega arith), map_lacks c f xs (λ k lt. h (suc k) (omega (arith, lt))))
 
 -- lists with equal images, where f tells the elements apart
-map_tells : (f : ℕ → List ℕ) (P : ℕ → Type 0) → ((x y : ℕ) → P x → P y → f x ≡ f y → x ≡ y) → (xs ys : List ℕ) → ((k : ℕ) → k < length xs → P (get_or xs k 0)) → ((k : ℕ) → k < length ys → P (get_or ys k 0))
+map_tells : (f : ℕ → List ℕ) (P : ℕ → Type 0) → ((x y : ℕ) → P x → P y → f x ≡ f y → x ≡ y) → (xs ys : List ℕ)
+    → ((k : ℕ) → k < length xs → P (get_or xs k 0)) → ((k : ℕ) → k < length ys → P (get_or ys k 0))
     → map f xs ≡ map f ys → xs ≡ ys
 map_tells f P tells [] [] hx hy e = refl
 map_tells f P tells [] (y ∷ ys) hx hy e = absurd (cc)
@@ -154,8 +156,10 @@ module _ (game : Game) (sound : IsSoundGame game) (proper : HasProperNames game)
   -- the text of a role
   pub role_lacks : (role : Role) → Lacks 32 (role_text game role)
   role_lacks Keeper = (omega arith, (omega arith, tt))
-  role_lacks (Player First) = subst (Lacks 32) (sym (variable_is game.variables 0)) (no_space _ (proper.variables_plain 0 [] (omega (arith, sound.has_players, length-map game.variables (λ v. v.name)))))
-  role_lacks (Player Second) = subst (Lacks 32) (sym (variable_is game.variables 1)) (no_space _ (proper.variables_plain 1 [] (omega (arith, sound.has_players, length-map game.variables (λ v. v.name)))))
+  role_lacks (Player First) = subst (Lacks 32) (sym (variable_is game.variables 0))
+      (no_space _ (proper.variables_plain 0 [] (omega (arith, sound.has_players, length-map game.variables (λ v. v.name)))))
+  role_lacks (Player Second) = subst (Lacks 32) (sym (variable_is game.variables 1))
+      (no_space _ (proper.variables_plain 1 [] (omega (arith, sound.has_players, length-map game.variables (λ v. v.name)))))
 
   not_keeper : (k : ℕ) → k < 2 → variable_name game k ≡ 62 ∷ 62 ∷ [] → ⊥
   not_keeper k lt e =
@@ -164,7 +168,8 @@ module _ (game : Game) (sound : IsSoundGame game) (proper : HasProperNames game)
       bad.0 refl
 
   not_same : variable_name game 0 ≡ variable_name game 1 → ⊥
-  not_same e = proper.variables_differ 0 1 [] (omega arith) (omega (arith, sound.has_players, length-map game.variables (λ v. v.name))) (sym (variable_is game.variables 0) ∙ e ∙ variable_is game.variables 1)
+  not_same e = proper.variables_differ 0 1 [] (omega arith) (omega (arith, sound.has_players, length-map game.variables (λ v. v.name)))
+      (sym (variable_is game.variables 0) ∙ e ∙ variable_is game.variables 1)
 
   role_told : (r s : Role) → role_text game r ≡ role_text game s → r ≡ s
   role_told Keeper Keeper e = refl
@@ -178,11 +183,13 @@ module _ (game : Game) (sound : IsSoundGame game) (proper : HasProperNames game)
   role_told (Player Second) (Player First) e = absurd (not_same (sym e))
 
   pub vertex_lacks : (k : ℕ) → k < length game.vertices → Lacks 32 (vertex_name game k)
-  vertex_lacks k lt = subst (Lacks 32) (sym (vertex_is game.vertices k)) (no_space _ (proper.vertices_plain k [] (omega (arith, lt, length-map game.vertices (λ v. v.name)))))
+  vertex_lacks k lt = subst (Lacks 32) (sym (vertex_is game.vertices k))
+      (no_space _ (proper.vertices_plain k [] (omega (arith, lt, length-map game.vertices (λ v. v.name)))))
 
   vertex_told : (j k : ℕ) → j < length game.vertices → k < length game.vertices → vertex_name game j ≡ vertex_name game k → j ≡ k
   vertex_told j k hj hk e =
-      place_told (map (λ v. v.name) game.vertices) proper.vertices_differ j k (omega (arith, hj, length-map game.vertices (λ v. v.name))) (omega (arith, hk, length-map game.vertices (λ v. v.name)))
+      place_told (map (λ v. v.name) game.vertices) proper.vertices_differ j k (omega (arith, hj, length-map game.vertices (λ v. v.name)))
+      (omega (arith, hk, length-map game.vertices (λ v. v.name)))
       (sym (vertex_is game.vertices j) ∙ e ∙ vertex_is game.vertices k)
 
   piece_told : (j k : ℕ) → j < length game.pieces → k < length game.pieces → piece_name game j ≡ piece_name game k → j ≡ k
@@ -211,7 +218,8 @@ module _ (game : Game) (sound : IsSoundGame game) (proper : HasProperNames game)
   pieces_low at is k lt = is.state_is.pieces_are k 0 lt
 
   pub pieces_space : (at : Position) → IsPositionOf game at → Lacks 32 (with_commas (map (piece_name game) at.state.pieces.items))
-  pieces_space at is = with_commas_lack 32 _ (omega arith) (map_lacks 32 (piece_name game) at.state.pieces.items (λ k lt. piece_space _ (pieces_low at is k lt)))
+  pieces_space at is = with_commas_lack 32 _ (omega arith)
+      (map_lacks 32 (piece_name game) at.state.pieces.items (λ k lt. piece_space _ (pieces_low at is k lt)))
 
   pub told : (x y : Position) → IsPositionOf game x → IsPositionOf game y → text_of game x ≡ text_of game y → x ≡ y
   told x y hx hy same =
@@ -222,11 +230,16 @@ module _ (game : Game) (sound : IsSoundGame game) (proper : HasProperNames game)
       let pieces = before 32 _ _ _ _ (pieces_space x hx) (pieces_space y hy) vertex.1 in
       let many_pieces = hx.state_is.pieces_fit ∙ sym hy.state_is.pieces_fit in
       let many_values = hx.state_is.values_fit ∙ sym hy.state_is.values_fit in
-      let piece_names = with_commas_tell _ _ (map_lacks 44 (piece_name game) x.state.pieces.items (λ k lt. piece_comma _ (pieces_low x hx k lt))) (map_lacks 44 (piece_name game) y.state.pieces.items (λ k lt. piece_comma _ (pieces_low y hy k lt)))
+      let piece_names = with_commas_tell _ _
+      (map_lacks 44 (piece_name game) x.state.pieces.items (λ k lt. piece_comma _ (pieces_low x hx k lt)))
+      (map_lacks 44 (piece_name game) y.state.pieces.items (λ k lt. piece_comma _ (pieces_low y hy k lt)))
       (length-map x.state.pieces.items (piece_name game) ∙ many_pieces ∙ sym (length-map y.state.pieces.items (piece_name game))) pieces.0 in
-      let numbers = with_commas_tell _ _ (map_lacks 44 decimal x.state.values.items (λ k lt. digits_lack 44 (omega arith) _ (values_low x hx k lt))) (map_lacks 44 decimal y.state.values.items (λ k lt. digits_lack 44 (omega arith) _ (values_low y hy k lt)))
+      let numbers = with_commas_tell _ _
+      (map_lacks 44 decimal x.state.values.items (λ k lt. digits_lack 44 (omega arith) _ (values_low x hx k lt)))
+      (map_lacks 44 decimal y.state.values.items (λ k lt. digits_lack 44 (omega arith) _ (values_low y hy k lt)))
       (length-map x.state.values.items decimal ∙ many_values ∙ sym (length-map y.state.values.items decimal)) pieces.1 in
       same_position x y (role_told _ _ role.0)
-      (map_tells (piece_name game) (λ k. k < length game.pieces) piece_told x.state.pieces.items y.state.pieces.items (pieces_low x hx) (pieces_low y hy) piece_names)
+      (map_tells (piece_name game) (λ k. k < length game.pieces) piece_told x.state.pieces.items y.state.pieces.items (pieces_low x hx)
+      (pieces_low y hy) piece_names)
       (map_tells decimal (λ n. n < 2 ^ 64) decimal_tells x.state.values.items y.state.values.items (values_low x hx) (values_low y hy) numbers)
       (vertex_told _ _ hx.state_is.vertex_is hy.state_is.vertex_is vertex.0) (decimal_tells _ _ (place_low x hx) (place_low y hy) place.0)

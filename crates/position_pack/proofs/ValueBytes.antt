@@ -33,7 +33,8 @@ four : (a b c x y z : ℕ) (xs ys : List ℕ) → (a ≡ x) × (b ≡ y) × (c �
 four a b c x y z xs ys p e = rw (p.0, p.1, p.2, e) refl
 
 -- the bytes of values, from the number of each three
-pub spell : (vs bs : List ℕ) → length bs ≡ 3 * length vs → ((i : ℕ) → get_or bs i 0 < 256) → ((k : ℕ) → k < length vs → get_or vs k 0 ≡ three_at bs k) → bs ≡ spelled vs
+pub spell : (vs bs : List ℕ) → length bs ≡ 3 * length vs → ((i : ℕ) → get_or bs i 0 < 256)
+    → ((k : ℕ) → k < length vs → get_or vs k 0 ≡ three_at bs k) → bs ≡ spelled vs
 spell [] [] e small same = refl
 spell [] (b ∷ bs) e small same = absurd (omega (arith, e))
 spell (v ∷ vs) [] e small same = absurd (omega (arith, e))
@@ -41,7 +42,8 @@ spell (v ∷ vs) (a ∷ []) e small same = absurd (omega (arith, e))
 spell (v ∷ vs) (a ∷ b ∷ []) e small same = absurd (omega (arith, e))
 spell (v ∷ vs) (a ∷ b ∷ c ∷ bs) e small same =
     let shorter : length bs ≡ 3 * length vs = omega (arith, e) in
-    let tail : (k : ℕ) → k < length vs → get_or vs k 0 ≡ three_at bs k = λ k lt. (let here : suc k < length (v ∷ vs) = omega (arith, lt) in same (suc k) here ∙ next_three a b c bs k) in
+    let tail : (k : ℕ) → k < length vs → get_or vs k 0 ≡ three_at bs k = λ k lt.
+    (let here : suc k < length (v ∷ vs) = omega (arith, lt) in same (suc k) here ∙ next_three a b c bs k) in
     let rest : bs ≡ spelled vs = spell vs bs shorter (λ i. small (suc (suc (suc i)))) tail in
     four a b c _ _ _ bs (spelled vs) (one_value a b c v (small 0) (small 1) (small 2) (same 0 (omega arith))) rest ∙ sym (spelled-cons v vs)
 

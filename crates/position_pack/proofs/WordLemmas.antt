@@ -6,13 +6,14 @@ use Rattle.std.specs.Str.Parse.{IsNumeral, AllDigits, digits_value, without_lead
 use Rattle.std.proofs.lemmas.Fmt.{decimal_digit, decimal_is_IsNumeral, decimal-digits_value, first_decimal}
 use Rattle.std.proofs.lemmas.Str.Parse.{IsNumeralModel, numerals_by_value, tells_digits, without_leading_plus_none}
 use Rattle.std.proofs.lemmas.List.{get_or_at, length-append}
-use Rattle.position_pack.specs.aid.Spelled.{IsSplitAt, AreWords}
+use Rattle.position_pack.specs.lemmas.Spelled.{IsSplitAt, AreWords}
 use Rattle.position_pack.proofs.TellLemmas.{before, lacks}
 
 -- a text without the byte is not cut
 pub not_cut : (c : ℕ) (text front back : List ℕ) → All (λ b. b ≢ c) text → text ≡ front ++ (c ∷ back) → ⊥
 not_cut c text front back none is =
-    none (length front) 0 (omega (arith, ap length is, length-append front (c ∷ back))) (ap (λ t. get_or t (length front) 0) is ∙ get_or_at front c back 0 (length front) refl)
+    none (length front) 0 (omega (arith, ap length is, length-append front (c ∷ back)))
+    (ap (λ t. get_or t (length front) 0) is ∙ get_or_at front c back 0 (length front) refl)
 
 -- where a text is cut tells its front and its back
 pub cut_told : (c : ℕ) (text front back a r : List ℕ) → IsSplitAt c text front back → All (λ b. b ≢ c) a → text ≡ a ++ (c ∷ r) → (front ≡ a) × (back ≡ r)
@@ -43,7 +44,8 @@ own : IsNumeralModel (AllDigits 10) (digits_value 10)
 own = numerals_by_value (AllDigits 10) tells_digits
 
 -- digits that begin plainly are those of their number
-pub digits_told : (n : ℕ) (bytes : List ℕ) → BeginsPlainly bytes → IsNumeral 10 (without_leading_plus bytes) → n ≡ digits_value 10 (without_leading_plus bytes) → n < 2 ^ 64 → bytes ≡ decimal n
+pub digits_told : (n : ℕ) (bytes : List ℕ) → BeginsPlainly bytes → IsNumeral 10 (without_leading_plus bytes)
+    → n ≡ digits_value 10 (without_leading_plus bytes) → n < 2 ^ 64 → bytes ≡ decimal n
 digits_told n bytes plain numeral is lt =
     let same = without_leading_plus_none bytes plain.0 in
     let digits : IsNumeral 10 bytes = subst (IsNumeral 10) same numeral in
@@ -63,7 +65,8 @@ no_vertex text f r g s a b c d e first second none are =
     let place = cut_told 32 text f r a _ first are.role_lacks are.text_is in
     not_cut 32 s c _ none (cut_told 32 r g s b _ second are.place_lacks place.1).1
 
-pub no_pieces : (text f r g s h t a b c d e : List ℕ) → IsSplitAt 32 text f r → IsSplitAt 32 r g s → IsSplitAt 32 s h t → All (λ x. x ≢ 32) t → AreWords text a b c d e → ⊥
+pub no_pieces : (text f r g s h t a b c d e : List ℕ) → IsSplitAt 32 text f r → IsSplitAt 32 r g s → IsSplitAt 32 s h t
+    → All (λ x. x ≢ 32) t → AreWords text a b c d e → ⊥
 no_pieces text f r g s h t a b c d e first second third none are =
     let place = cut_told 32 text f r a _ first are.role_lacks are.text_is in
     let vertex = cut_told 32 r g s b _ second are.place_lacks place.1 in

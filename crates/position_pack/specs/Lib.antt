@@ -12,4 +12,4 @@ pub mod Packings
 pub mod Texts
 pub mod Spelled
 pub mod Laws
-pub mod aid
+pub mod lemmas

@@ -12,7 +12,7 @@ pub record Shape : Type 0 where
   pub vertices : ℕ
   pub actions : ℕ
 
--- those of a game
+-- the shape of a game's positions
 abbrev pub shape_of : Game → Shape
 shape_of game = record {
   pieces = length game.pieces;

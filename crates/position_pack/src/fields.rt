@@ -6,8 +6,8 @@ ghost use Rattle.arrayvec.specs.ArrayVec.{array_vec_len};
 ghost use Rattle.position_pack.specs.Fields as spec;
 ghost use Rattle.position_pack.specs.Bits as bits;
 ghost use Rattle.position_pack.specs.Bits.{width, bits_of, field_bits, bytes_of_bits};
-ghost use Rattle.position_pack.specs.aid.Bits.{AreFields, IsFieldsOf, AreInRange};
-ghost use Rattle.position_pack.specs.aid.Streams.{written, IsWriter};
+ghost use Rattle.position_pack.specs.lemmas.Bits.{AreFields, IsFieldsOf, AreInRange};
+ghost use Rattle.position_pack.specs.lemmas.Streams.{written, IsWriter};
 
 use crate::packed::Packed;
 use crate::parts::{role_byte, role_of};

@@ -4,7 +4,7 @@ ghost use Rattle.std.specs.Prelude.{◌≡◌, ◌≢◌, ℕ, MatchOption};
 ghost use Rattle.rbg_game.specs.Meaning.{game_of};
 ghost use Rattle.rbg_game.specs.Sound.{IsSoundGame};
 ghost use Rattle.position_pack.specs.Texts.{role_text};
-ghost use Rattle.position_pack.specs.aid.Spelled.{IsVertex, IsPiece};
+ghost use Rattle.position_pack.specs.lemmas.Spelled.{IsVertex, IsPiece};
 
 use crate::text::{piece_name, vertex_name};
 use rbg_game::game::Game;

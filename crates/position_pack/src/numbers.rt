@@ -7,7 +7,7 @@ ghost use Rattle.rbg_game.specs.Meaning.{game_of};
 ghost use Rattle.rbg_game.specs.Sound.{IsSoundGame};
 ghost use Rattle.rbg_game.specs.Games.{bound_of};
 ghost use Rattle.rbg_game.specs.Rules as rules;
-ghost use Rattle.position_pack.specs.aid.Spelled.{IsDecimal};
+ghost use Rattle.position_pack.specs.lemmas.Spelled.{IsDecimal};
 
 use rbg_game::count::action_count;
 use rbg_game::game::Game;

@@ -5,7 +5,7 @@ ghost use Rattle.std.specs.List.{flat_map};
 ghost use Rattle.std.specs.Int.{bytes_high_first};
 ghost use Rattle.arrayvec.specs.ArrayVec.{array_vec_len};
 ghost use Rattle.position_pack.specs.Fields.{role_code};
-ghost use Rattle.position_pack.specs.aid.Bytes.{AreValues};
+ghost use Rattle.position_pack.specs.lemmas.Bytes.{AreValues};
 
 use crate::packed::Packed;
 use arrayvec::ArrayVec;

@@ -6,7 +6,7 @@ ghost use Rattle.rbg_game.specs.Sound.{IsSoundGame};
 ghost use Rattle.rbg_game.specs.Names.{HasProperNames};
 ghost use Rattle.rbg_game.specs.declared.position.Position.{Position};
 ghost use Rattle.position_pack.specs.Spelled.{IsSpelled};
-ghost use Rattle.position_pack.specs.aid.Spelled.{ArePieces, AreNumbers};
+ghost use Rattle.position_pack.specs.lemmas.Spelled.{ArePieces, AreNumbers};
 
 use crate::names::{read_piece, read_role, read_vertex};
 use crate::numbers::{read_place, read_value};

@@ -3,7 +3,7 @@
 ghost use Rattle.std.specs.Prelude.{◌≡◌, ◌+◌, ◌^◌, ◌≤◌, ◌<◌, ◌++◌, length};
 ghost use Rattle.position_pack.specs.Bits as bits;
 ghost use Rattle.position_pack.specs.Bits.{bits_of};
-ghost use Rattle.position_pack.specs.aid.Streams.{left, IsReader};
+ghost use Rattle.position_pack.specs.lemmas.Streams.{left, IsReader};
 
 /// How far bytes are read: `next` of them, of whose bits the last `count` are held.
 #[derive(Drop)]

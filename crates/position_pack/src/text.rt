@@ -7,7 +7,7 @@ ghost use Rattle.rbg_game.specs.Sound.{IsSoundGame};
 ghost use Rattle.rbg_game.specs.Positions.{IsPositionOf};
 ghost use Rattle.position_pack.specs.Texts as spec;
 ghost use Rattle.position_pack.specs.Texts.{role_text, with_commas, text_of};
-ghost use Rattle.position_pack.specs.aid.Texts.{comma_before};
+ghost use Rattle.position_pack.specs.lemmas.Texts.{comma_before};
 
 use rbg_game::game::Game;
 use rbg_game::position::Position;

@@ -1,7 +1,7 @@
 //! The words of a text.
 
 ghost use Rattle.std.specs.Prelude.{◌≢◌, ℕ, All, List, MatchOption};
-ghost use Rattle.position_pack.specs.aid.Spelled.{IsSplitAt, AreWords};
+ghost use Rattle.position_pack.specs.lemmas.Spelled.{IsSplitAt, AreWords};
 
 /// What stands before the first such byte and what after it: none where the byte is not there.
 pub fn cut(text: &[u8], byte: u8) -> Option<(&[u8], &[u8])>

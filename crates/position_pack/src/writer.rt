@@ -2,7 +2,7 @@
 
 ghost use Rattle.std.specs.Prelude.{◌≡◌, ◌+◌, ◌≤◌, ◌++◌, [], length};
 ghost use Rattle.position_pack.specs.Bits.{bits_of, bytes_of_bits};
-ghost use Rattle.position_pack.specs.aid.Streams.{written, HoldsFewer, IsWriter};
+ghost use Rattle.position_pack.specs.lemmas.Streams.{written, HoldsFewer, IsWriter};
 
 use crate::packed::Packed;
 

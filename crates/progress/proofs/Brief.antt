@@ -3,8 +3,8 @@ use Rattle.std.proofs.Common.{◌≡◌, ◌⊎◌, inl, inr, ℕ, ◌+◌, ◌*
 use Rattle.rbg_game.specs.Games.{Game}
 use Rattle.retrograde.specs.View.{IsFinished}
 use Rattle.solver.specs.Machine.{Command, load, work}
-use Rattle.recover.specs.Tables.{BriefTable, IsTrueIn, IsTrueOfItsGame, TextSays, play_of}
-use Rattle.recover.specs.Brief.{BriefAnswer, loaded, worked, refused, BriefSitting, GoesOnBy, Makes, MakeInTurn, MayMake, SittingsMake, units_so_far}
+use Rattle.headline.specs.Tables.{BriefTable, IsTrueIn, IsTrueOfItsGame, TextSays, play_of}
+use Rattle.headline.specs.Brief.{BriefAnswer, loaded, worked, refused, BriefSitting, GoesOnBy, Makes, MakeInTurn, MayMake, SittingsMake, units_so_far}
 use Rattle.progress.specs.Enough.{HasAtMost}
 use Rattle.progress.specs.InBrief.{units_for, units_for_all, units_for_sittings}
 use Rattle.progress.proofs.Bounds.{enough}

@@ -1,6 +1,6 @@
 pub mod Bounds
-pub mod Working
+pub mod Work
 pub mod Brief
-pub mod Refusing
+pub mod Refusals
 pub mod Pages
 pub mod Small

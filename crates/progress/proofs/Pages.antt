@@ -1,11 +1,11 @@
 -- A table is short of pages only where few are free.
 use Rattle.std.proofs.Common.{◌≡◌, ℕ, ◌≤◌, Some, subst}
 use Rattle.rbg_game.specs.Games.{Game}
-use Rattle.rbg_read.specs.Reading.{Reads}
-use Rattle.rbg_read.proofs.OneReading.{one_game}
+use Rattle.rbg_read.specs.Reads.{Reads}
+use Rattle.rbg_read.proofs.OneGame.{one_game}
 use Rattle.retrograde.specs.Sound.{IsLocallySound}
 use Rattle.game_table.specs.Entries.{HasAtMostMoves, pages_taken}
-use Rattle.game_table.specs.aid.Pages.{wants_few}
+use Rattle.game_table.specs.lemmas.Pages.{wants_few}
 use Rattle.game_file.specs.Kept.{Kept}
 use Rattle.solver.specs.Held.{IsSound, graph_in, wide_in}
 use Rattle.solver.specs.Machine.{IsShortOfPages}

@@ -2,7 +2,7 @@
 use Rattle.std.proofs.Common.{◌≡◌, ℕ, ◌≤◌, ◌^◌, List, Option, None, Some, refl, sym, subst, arith}
 use Rattle.rbg_game.specs.declared.roles.Player.{Player}
 use Rattle.rbg_game.specs.declared.roles.Player.TheVariants.{First}
-use Rattle.rbg_read.specs.Reading.{Reads}
+use Rattle.rbg_read.specs.Reads.{Reads}
 use Rattle.position_pack.specs.declared.kind.PackingKind.{PackingKind}
 use Rattle.legal_moves.specs.Sources.{IsWideAt, graph_of}
 use Rattle.retrograde.specs.Graph.{IsReachable}
@@ -14,8 +14,8 @@ use Rattle.solver.specs.Headline.{SaysWhatIs}
 use Rattle.solver.specs.Held.{graph_in, wide_in}
 use Rattle.witness.specs.Game.{witness_text, witness_game}
 use Rattle.witness.proofs.Positions.{graph, all, comes, is_among, no_choice, no_width}
-use Rattle.witness.proofs.Reading.{witness_read}
-use Rattle.witness.proofs.Winning.{only_in_two, not_drawn}
+use Rattle.witness.proofs.TextReads.{witness_read}
+use Rattle.witness.proofs.Win.{only_in_two, not_drawn}
 use Rattle.progress.specs.Enough.{HasAtMost}
 use Rattle.progress.specs.Limits.{IsWithinLimits}
 

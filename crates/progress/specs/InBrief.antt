@@ -1,7 +1,7 @@
 -- How many units were asked for, in the words of the headline in brief.
 use Rattle.std.specs.Prelude.{ℕ, ◌+◌, List, [], ◌∷◌}
 use Rattle.solver.specs.Machine.{Command, work}
-use Rattle.recover.specs.Brief.{BriefAnswer, BriefSitting, worked}
+use Rattle.headline.specs.Brief.{BriefAnswer, BriefSitting, worked}
 
 -- how many units a command asked for that was answered with a count; no other command asks for any
 abbrev pub units_for : Command → BriefAnswer → ℕ

@@ -3,7 +3,7 @@ ghost use Rattle.std.specs.Prelude.{◌≡◌, ◌⊎◌, ℕ, ◌+◌, ◌*◌,
 ghost use Rattle.sector_disk.specs.Disk.{Picture, Shown, MayLeave};
 ghost use Rattle.rbg_game.specs.Games.{Game};
 ghost use Rattle.rbg_game.specs.declared.roles.Player.TheVariants.{First};
-ghost use Rattle.rbg_read.specs.Reading.{Reads};
+ghost use Rattle.rbg_read.specs.Reads.{Reads};
 ghost use Rattle.retrograde.specs.Stored.{view_of};
 ghost use Rattle.retrograde.specs.View.{HasValue, IsFinished};
 ghost use Rattle.game_file.specs.Kept.{Kept, in_any};
@@ -13,8 +13,8 @@ ghost use Rattle.solver.specs.Held.{Holds, IsSound, graph_in, wide_in};
 ghost use Rattle.solver.specs.Histories.{Sitting, DoAll, History};
 ghost use Rattle.solver.specs.Machine.{Command, IsShortOfPages, Step, work};
 ghost use Rattle.solver.specs.declared.fault.SolverFault.{SolverFault};
-ghost use Rattle.recover.specs.Tables.{BriefTable, TextSays, play_of};
-ghost use Rattle.recover.specs.Brief.{BriefSitting, BriefHistory, BriefHeadline};
+ghost use Rattle.headline.specs.Tables.{BriefTable, TextSays, play_of};
+ghost use Rattle.headline.specs.Brief.{BriefSitting, BriefHistory, BriefHeadline};
 ghost use Rattle.solver.specs.declared.replies.Reply.{Reply};
 ghost use Rattle.solver.specs.declared.replies.Reply.TheVariants.{Refused};
 ghost use Rattle.lines_kept.specs.Uses.{Uses};
@@ -25,9 +25,9 @@ ghost use Rattle.game_table.specs.Entries.{HasAtMostMoves, pages_taken};
 ghost use Rattle.witness.specs.Game.{witness_text, witness_game};
 
 use game_file::{GameFile, Versions};
+use headline::SavedTable;
+use headline::saved::the_headline_in_brief;
 use lines_kept::laws::what_lines_told_is_kept;
-use recover::SavedTable;
-use recover::saved::the_headline_in_brief;
 use solver::laws::the_headline;
 
 /// Of the units that answered commands asked for each was done, or the table is finished.
@@ -56,7 +56,7 @@ pub fn it_gets_there<F: GameFile>()
     the_headline::<F>()
 }
 
-/// So of the lines that were printed: whatever was done with the file of one table, by sessions of lines and by commands, each stopped at any
+/// It gets there by the lines that were printed: whatever was done with the file of one table, by sessions of lines and by commands, each stopped at any
 /// moment, where the `work` lines whose replies had begun asked for so many units, what is left is the finished table.
 pub fn what_lines_told_gets_there<F: Versions>()
     ensures { (told : List (List (Command × Reply))) (left : Shown) (picture : Picture) (kept : Kept) (game : Game) (n : ℕ)
@@ -67,7 +67,7 @@ pub fn what_lines_told_gets_there<F: Versions>()
     what_lines_told_is_kept::<F>()
 }
 
-/// So in brief, of what reopening gives.
+/// It gets there in brief, of what reopening gives.
 pub fn it_gets_there_in_brief<S: SavedTable>()
     ensures { (sittings : List BriefSitting) (left : Shown) (picture : Picture) → BriefHistory S.calls sittings left → MayLeave left picture
         → (headline : BriefHeadline S.calls sittings picture)
@@ -98,7 +98,7 @@ pub fn the_small_game_is_within_limits()
     ensures few { (kept : Kept) → kept.goal ≡ None → HasAtMost (graph_in witness_game kept) 4 }
 {}
 
-/// So a table of it for which eight units were asked for is finished, and says that white wins in two: by the law alone, whatever stops came.
+/// A table of the small game for which eight units were asked for is finished, and says that white wins in two: by the law alone, whatever stops came.
 pub fn the_small_game_is_solved<F: GameFile>()
     ensures { (sittings : List Sitting) (left : Shown) (picture : Picture) (kept : Kept) → History F.stores sittings left → MayLeave left picture
         → Holds (in_any F.stores) picture (Some kept) → kept.text ≡ witness_text → kept.goal ≡ None → 8 ≤ units_asked_in sittings

@@ -32,7 +32,8 @@ alts_count [] = refl
 alts_count (x ∷ xs) = folded_alts (regex_of x) (map regex_of xs) ∙ ap (λ n. actions x + n) (in_parts xs) ∙ sym (sum_by-cons actions x xs)
 
 -- a part, and those before it, are within the whole
-pub within : (xs : List Rules) (i : ℕ) (x : Rules) (whole : ℕ) → i < length xs → x ≡ get_or xs i x → sum_by actions xs ≡ whole → sum_by actions (take i xs) + actions x ≤ whole
+pub within : (xs : List Rules) (i : ℕ) (x : Rules) (whole : ℕ) → i < length xs → x ≡ get_or xs i x → sum_by actions xs ≡ whole
+    → sum_by actions (take i xs) + actions x ≤ whole
 within xs i x whole lt is e = omega (arith, sum_by_more_le actions xs i x lt, ap actions is, e)
 
 -- the numbered actions are among all

@@ -39,16 +39,21 @@ pub action_of-Off : (x : ℕ) → action_of (a.Off x) ≡ textbook.off x
 action_of-Off x = ap action_of (sym (a.rolls-Off x)) ∙ fold-roll-Action textbook.Action textbook.Regex action_level rules_level (Action-F.Off x)
 
 pub action_of-Assignment : (v : ℕ) (e : Expr) → action_of (a.Assignment v e) ≡ textbook.assignment v (expression_of e)
-action_of-Assignment v e = ap action_of (sym (a.rolls-Assignment v e)) ∙ fold-roll-Action textbook.Action textbook.Regex action_level rules_level (Action-F.Assignment v e)
+action_of-Assignment v e = ap action_of (sym (a.rolls-Assignment v e))
+    ∙ fold-roll-Action textbook.Action textbook.Regex action_level rules_level (Action-F.Assignment v e)
 
-pub action_of-Comparison : (x : Expr) (op : Comparison) (y : Expr) → action_of (a.Comparison x op y) ≡ textbook.comparison (expression_of x) op (expression_of y)
-action_of-Comparison x op y = ap action_of (sym (a.rolls-Comparison x op y)) ∙ fold-roll-Action textbook.Action textbook.Regex action_level rules_level (Action-F.Comparison x op y)
+pub action_of-Comparison : (x : Expr) (op : Comparison) (y : Expr)
+    → action_of (a.Comparison x op y) ≡ textbook.comparison (expression_of x) op (expression_of y)
+action_of-Comparison x op y = ap action_of (sym (a.rolls-Comparison x op y))
+    ∙ fold-roll-Action textbook.Action textbook.Regex action_level rules_level (Action-F.Comparison x op y)
 
 pub action_of-Switch : (role : Role) → action_of (a.Switch role) ≡ textbook.switch role
-action_of-Switch role = ap action_of (sym (a.rolls-Switch role)) ∙ fold-roll-Action textbook.Action textbook.Regex action_level rules_level (Action-F.Switch role)
+action_of-Switch role = ap action_of (sym (a.rolls-Switch role))
+    ∙ fold-roll-Action textbook.Action textbook.Regex action_level rules_level (Action-F.Switch role)
 
 pub action_of-Pattern : (positive : Bool) (e : Box Rules Global) → action_of (a.Pattern positive e) ≡ textbook.pattern positive (regex_of e.value)
-action_of-Pattern positive e = ap action_of (sym (a.rolls-Pattern positive e)) ∙ fold-roll-Action textbook.Action textbook.Regex action_level rules_level (Action-F.Pattern positive e)
+action_of-Pattern positive e = ap action_of (sym (a.rolls-Pattern positive e))
+    ∙ fold-roll-Action textbook.Action textbook.Regex action_level rules_level (Action-F.Pattern positive e)
 
 -- ---- rules
 
@@ -56,10 +61,12 @@ pub regex_of-Action : (x : Action) → regex_of (r.Action x) ≡ textbook.one (a
 regex_of-Action x = ap regex_of (sym (r.rolls-Action x)) ∙ fold-roll-Rules textbook.Action textbook.Regex action_level rules_level (Rules-F.Action x)
 
 pub regex_of-Concat : (parts : Vec Rules Global) → regex_of (r.Concat parts) ≡ textbook.cat_all (map regex_of parts.items)
-regex_of-Concat parts = ap regex_of (sym (r.rolls-Concat parts)) ∙ fold-roll-Rules textbook.Action textbook.Regex action_level rules_level (Rules-F.Concat parts)
+regex_of-Concat parts = ap regex_of (sym (r.rolls-Concat parts))
+    ∙ fold-roll-Rules textbook.Action textbook.Regex action_level rules_level (Rules-F.Concat parts)
 
 pub regex_of-Sum : (branches : Vec Rules Global) → regex_of (r.Sum branches) ≡ textbook.alt_all (map regex_of branches.items)
-regex_of-Sum branches = ap regex_of (sym (r.rolls-Sum branches)) ∙ fold-roll-Rules textbook.Action textbook.Regex action_level rules_level (Rules-F.Sum branches)
+regex_of-Sum branches = ap regex_of (sym (r.rolls-Sum branches))
+    ∙ fold-roll-Rules textbook.Action textbook.Regex action_level rules_level (Rules-F.Sum branches)
 
 pub regex_of-Star : (e : Box Rules Global) → regex_of (r.Star e) ≡ textbook.star (regex_of e.value)
 regex_of-Star e = ap regex_of (sym (r.rolls-Star e)) ∙ fold-roll-Rules textbook.Action textbook.Regex action_level rules_level (Rules-F.Star e)

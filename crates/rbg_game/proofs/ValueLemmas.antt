@@ -49,30 +49,44 @@ fold_start P f first a [] h = h
 fold_start P f first a (x ∷ xs) h = first a x (fold_start P f first (f a x) xs h)
 
 -- and of each beginning of it
-pub fold_prefix : {A : Type 0} (P : A → Type 0) (f : A → A → A) → ((x y : A) → P (f x y) → P x) → (a : A) (xs : List A) (i : ℕ) → P (fold f a xs) → P (fold f a (take i xs))
+pub fold_prefix : {A : Type 0} (P : A → Type 0) (f : A → A → A) → ((x y : A) → P (f x y) → P x) → (a : A) (xs : List A) (i : ℕ)
+    → P (fold f a xs) → P (fold f a (take i xs))
 fold_prefix P f first a [] zero h = h
 fold_prefix P f first a [] (suc i) h = h
 fold_prefix P f first a (x ∷ xs) zero h = fold_start P f first a (x ∷ xs) h
 fold_prefix P f first a (x ∷ xs) (suc i) h = fold_prefix P f first (f a x) xs i h
 
 -- and of the last step of each
-pub fold_part : {A : Type 0} (P : A → Type 0) (f : A → A → A) → ((x y : A) → P (f x y) → P x) → (a : A) (xs : List A) (i : ℕ) (d : A) → i < length xs → P (fold f a xs) → P (f (fold f a (take i xs)) (get_or xs i d))
+pub fold_part : {A : Type 0} (P : A → Type 0) (f : A → A → A) → ((x y : A) → P (f x y) → P x) → (a : A) (xs : List A) (i : ℕ) (d : A)
+    → i < length xs → P (fold f a xs) → P (f (fold f a (take i xs)) (get_or xs i d))
 fold_part P f first a xs i d h p = subst P (fold_more f a xs i d h) (fold_prefix P f first a xs (i + 1) p)
 
 -- the item of a loop over the parts
-pub item_part : (P : Expression → Type 0) (f : Expression → Expression → Expression) → ((a b : Expression) → P (f a b) → P a) → (a : Expression) (items : List Expr) (i : ℕ) (x : Expr) → i < length items → x ≡ get_or items i x → P (fold f a (map expression_of items)) → P (f (fold f a (take i (map expression_of items))) (expression_of x))
+pub item_part : (P : Expression → Type 0) (f : Expression → Expression → Expression) → ((a b : Expression) → P (f a b) → P a)
+    → (a : Expression) (items : List Expr) (i : ℕ) (x : Expr) → i < length items → x ≡ get_or items i x
+    → P (fold f a (map expression_of items)) → P (f (fold f a (take i (map expression_of items))) (expression_of x))
 item_part P f first a items i x h e p =
     let part = fold_part P f first a (map expression_of items) i (expression_of x) (omega (arith, length-map items expression_of)) p in
-    let same : get_or (map expression_of items) i (expression_of x) ≡ expression_of x = get_or-map expression_of items i x (expression_of x) h ∙ ap expression_of (sym e) in
+    let same : get_or (map expression_of items) i (expression_of x) ≡ expression_of x = get_or-map expression_of items i x
+    (expression_of x) h ∙ ap expression_of (sym e) in
     subst (λ y. P (f (fold f a (take i (map expression_of items))) y)) same part
 
-item_more : (f : Expression → Expression → Expression) (a : Expression) (items : List Expr) (i : ℕ) (x : Expr) → i < length items → x ≡ get_or items i x → fold f a (take (i + 1) (map expression_of items)) ≡ f (fold f a (take i (map expression_of items))) (expression_of x)
+item_more : (f : Expression → Expression → Expression) (a : Expression) (items : List Expr) (i : ℕ) (x : Expr) → i < length items
+    → x ≡ get_or items i x → fold f a (take (i + 1) (map expression_of items)) ≡ f (fold f a (take i (map expression_of items))) (expression_of x)
 item_more f a items i x h e =
-    let same : get_or (map expression_of items) i (expression_of x) ≡ expression_of x = get_or-map expression_of items i x (expression_of x) h ∙ ap expression_of (sym e) in
-    fold_more f a (map expression_of items) i (expression_of x) (omega (arith, length-map items expression_of)) ∙ ap (f (fold f a (take i (map expression_of items)))) same
+    let same : get_or (map expression_of items) i (expression_of x) ≡ expression_of x = get_or-map expression_of items i x
+    (expression_of x) h ∙ ap expression_of (sym e) in
+    fold_more f a (map expression_of items) i (expression_of x) (omega (arith, length-map items expression_of))
+    ∙ ap (f (fold f a (take i (map expression_of items)))) same
 
 -- one turn of a loop that folds the values of the parts by an operation of ℤ
-module _ (values : List ℕ) (f : Expression → Expression → Expression) (op : ℤ → ℤ → ℤ) (is : (a b : Expression) → value_of values (f a b) ≡ op (value_of values a) (value_of values b)) (first : (a b : Expression) → HasSmallParts values (f a b) → HasSmallParts values a) (second : (a b : Expression) → HasSmallParts values (f a b) → HasSmallParts values b) (start : Expression) (items : List Expr) (i : ℕ) (x : Expr) (total r : ℤ) (within : i < length items) (item : x ≡ get_or items i x) (small : HasSmallParts values (fold f start (map expression_of items))) (invariant : total ≡ value_of values (fold f start (take i (map expression_of items)))) (part_is : r ≡ value_of values (expression_of x)) where
+module _ (values : List ℕ) (f : Expression → Expression → Expression) (op : ℤ → ℤ → ℤ)
+    (is : (a b : Expression) → value_of values (f a b) ≡ op (value_of values a) (value_of values b))
+    (first : (a b : Expression) → HasSmallParts values (f a b) → HasSmallParts values a)
+    (second : (a b : Expression) → HasSmallParts values (f a b) → HasSmallParts values b) (start : Expression) (items : List Expr) (i : ℕ)
+    (x : Expr) (total r : ℤ) (within : i < length items) (item : x ≡ get_or items i x)
+    (small : HasSmallParts values (fold f start (map expression_of items)))
+    (invariant : total ≡ value_of values (fold f start (take i (map expression_of items)))) (part_is : r ≡ value_of values (expression_of x)) where
   part : HasSmallParts values (f (fold f start (take i (map expression_of items))) (expression_of x))
   part = item_part (HasSmallParts values) f first start items i x within item small
 
@@ -122,7 +136,8 @@ pub sum_value : (values : List ℕ) (xs : List Expression) → value_of values (
 sum_value values [] = refl
 sum_value values (a ∷ xs) = along (sum (number 0) a) a xs (zero_and (value_of values a))
   where
-    along : (b a : Expression) (xs : List Expression) → value_of values b ≡ value_of values a → value_of values (fold sum b xs) ≡ value_of values (fold sum a xs)
+    along : (b a : Expression) (xs : List Expression) → value_of values b ≡ value_of values a
+        → value_of values (fold sum b xs) ≡ value_of values (fold sum a xs)
     along b a [] e = e
     along b a (x ∷ xs) e = along (sum b x) (sum a x) xs (ap (λ z. z +ℤ value_of values x) e)
 
@@ -130,7 +145,8 @@ pub product_value : (values : List ℕ) (xs : List Expression) → value_of valu
 product_value values [] = refl
 product_value values (a ∷ xs) = along (product (number 1) a) a xs (one_by (value_of values a))
   where
-    along : (b a : Expression) (xs : List Expression) → value_of values b ≡ value_of values a → value_of values (fold product b xs) ≡ value_of values (fold product a xs)
+    along : (b a : Expression) (xs : List Expression) → value_of values b ≡ value_of values a
+        → value_of values (fold product b xs) ≡ value_of values (fold product a xs)
     along b a [] e = e
     along b a (x ∷ xs) e = along (product b x) (product a x) xs (ap (λ z. z *ℤ value_of values x) e)
 
@@ -138,17 +154,21 @@ pub sum_small : (values : List ℕ) (xs : List Expression) → HasSmallParts val
 sum_small values [] h = h
 sum_small values (a ∷ xs) h = along (sum (number 0) a) a xs (omega arith) (λ p. (omega (arith, size_small values a p), omega arith, p)) h
   where
-    along : (b a : Expression) (xs : List Expression) → size_of values b ≡ size_of values a → (HasSmallParts values a → HasSmallParts values b) → HasSmallParts values (fold sum a xs) → HasSmallParts values (fold sum b xs)
+    along : (b a : Expression) (xs : List Expression) → size_of values b ≡ size_of values a
+        → (HasSmallParts values a → HasSmallParts values b) → HasSmallParts values (fold sum a xs) → HasSmallParts values (fold sum b xs)
     along b a [] e f h = f h
-    along b a (x ∷ xs) e f h = along (sum b x) (sum a x) xs (ap (λ n. n + size_of values x) e) (λ p. (subst (λ n. n + size_of values x ≤ 2 ^ 62) (sym e) p.0, f p.1, p.2)) h
+    along b a (x ∷ xs) e f h = along (sum b x) (sum a x) xs (ap (λ n. n + size_of values x) e)
+        (λ p. (subst (λ n. n + size_of values x ≤ 2 ^ 62) (sym e) p.0, f p.1, p.2)) h
 
 pub product_small : (values : List ℕ) (xs : List Expression) → HasSmallParts values (product_all xs) → HasSmallParts values (fold product (number 1) xs)
 product_small values [] h = h
 product_small values (a ∷ xs) h = along (product (number 1) a) a xs (omega arith) (λ p. (omega (arith, size_small values a p), omega arith, p)) h
   where
-    along : (b a : Expression) (xs : List Expression) → size_of values b ≡ size_of values a → (HasSmallParts values a → HasSmallParts values b) → HasSmallParts values (fold product a xs) → HasSmallParts values (fold product b xs)
+    along : (b a : Expression) (xs : List Expression) → size_of values b ≡ size_of values a
+        → (HasSmallParts values a → HasSmallParts values b) → HasSmallParts values (fold product a xs) → HasSmallParts values (fold product b xs)
     along b a [] e f h = f h
-    along b a (x ∷ xs) e f h = along (product b x) (product a x) xs (ap (λ n. n * size_of values x) e) (λ p. (subst (λ n. n * size_of values x ≤ 2 ^ 62) (sym e) p.0, f p.1, p.2)) h
+    along b a (x ∷ xs) e f h = along (product b x) (product a x) xs (ap (λ n. n * size_of values x) e)
+        (λ p. (subst (λ n. n * size_of values x ≤ 2 ^ 62) (sym e) p.0, f p.1, p.2)) h
 
 pub sum_named : (n : ℕ) (xs : List Expression) → NamesBelow n (sum_all xs) → NamesBelow n (fold sum (number 0) xs)
 sum_named n [] h = h

@@ -11,7 +11,7 @@ CanBeGoal points = (1 ≤ points) × (points ≤ MAX_POINTS)
 abbrev pub points_in : Goal → ℕ
 points_in goal = goal.points
 
--- the same of a goal that a table may have or not
+-- the points of a goal that a table may have
 abbrev pub points_of : Option Goal → Option ℕ
 points_of None = None
 points_of (Some goal) = Some (points_in goal)

@@ -9,7 +9,7 @@ use Rattle.rbg_text.specs.declared.token.Sign.TheVariants.{Plus, Star, ClosePare
 use Rattle.rbg_game.specs.Rules.{Regex, Action, action_at}
 use Rattle.rbg_read.specs.Means.{Names, names_of, rules_of, sum_rules, concat_rules, element_rules, base_rules}
 use Rattle.rbg_read.specs.Means as means
-use Rattle.rbg_read.proofs.Numbering.{actions_of, length_actions, by_list, length_zip, zip_at}
+use Rattle.rbg_read.proofs.NumberedActions.{actions_of, length_actions, by_list, length_zip, zip_at}
 use Rattle.rbg_read.specs.Written.{Spot, assigned, meaning, spots, spots_in_concat, spots_in_element, spots_in_base, spots_of}
 use Rattle.rbg_read.specs.Written.{further_assigned}
 use Rattle.rbg_read.specs.Laws.{NumbersAreKept}

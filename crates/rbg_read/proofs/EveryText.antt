@@ -7,17 +7,17 @@ use Rattle.rbg_text.specs.Lex.{lex}
 use Rattle.rbg_text.specs.Syntax as g
 use Rattle.rbg_text.specs.Syntax.{Tokens, Section}
 use Rattle.rbg_text.specs.Said.{Said, said_of}
-use Rattle.rbg_text.specs.aid.Parse.{Outcome}
-use Rattle.rbg_text.specs.aid.ParseSections.{sections}
+use Rattle.rbg_text.specs.lemmas.Parse.{Outcome}
+use Rattle.rbg_text.specs.lemmas.ParseSections.{sections}
 use Rattle.rbg_text.specs.NestingCount.{nesting}
-use Rattle.rbg_text.proofs.Splitting.{splits-lex, lex-splits}
+use Rattle.rbg_text.proofs.Splits.{splits-lex, lex-splits}
 use Rattle.rbg_text.proofs.ExpressionsComplete.{state}
 use Rattle.rbg_text.proofs.ReadSections.{spelled, unspelled}
 use Rattle.rbg_game.specs.Games.{Game}
-use Rattle.rbg_read.specs.aid.Parts.{Parts, collected, known_of}
-use Rattle.rbg_read.specs.aid.Flat.{flat_cause}
-use Rattle.rbg_read.specs.aid.Build.{flat_game}
-use Rattle.rbg_read.specs.Reading.{Reads, Fault, too_long, stray_byte, nested, grammar}
+use Rattle.rbg_read.specs.lemmas.Parts.{Parts, collected, known_of}
+use Rattle.rbg_read.specs.lemmas.Flat.{flat_cause}
+use Rattle.rbg_read.specs.lemmas.Build.{flat_game}
+use Rattle.rbg_read.specs.Reads.{Reads, Fault, too_long, stray_byte, nested, grammar}
 use Rattle.rbg_read.specs.declared.fault.GameFault.{GameFault}
 use Rattle.rbg_read.specs.declared.fault.GameFault.TheVariants as cause
 use Rattle.rbg_read.proofs.Outcome.{lacks, refused, read}
@@ -27,7 +27,8 @@ abbrev Answered : Text → Type 0
 Answered text = ((game : Game) × Reads text game) ⊎ ((fault : GameFault) × Fault text fault)
 
 -- with the sections that the tokens spell
-module _ (text : Text) (ts : Tokens) (all : List Section) (short : length text ≤ 65536) (flat : nesting ts ≤ 64) (splits : Splits text ts) (is : ts ≡ g.text all) where
+module _ (text : Text) (ts : Tokens) (all : List Section) (short : length text ≤ 65536) (flat : nesting ts ≤ 64) (splits : Splits text ts)
+    (is : ts ≡ g.text all) where
   by_cause : (p : Parts) → collected (map said_of all) ≡ Some p → (c : Option GameFault) → flat_cause (known_of p) p ≡ c → Answered text
   by_cause p h None none =
       inl (flat_game (known_of p) p, read text ts all (map said_of all) short flat splits is refl p (known_of p) (flat_game (known_of p) p) h refl none refl)

@@ -5,10 +5,10 @@ use Rattle.rbg_text.specs.Token.{Text}
 use Rattle.rbg_text.specs.Syntax as g
 use Rattle.rbg_read.specs.Causes.{is_large, first_cause}
 use Rattle.rbg_text.specs.Lex.{skip_from, is_at, sign_among, sign_at, take_token, lex_from, lex}
-use Rattle.rbg_read.specs.Reading.{Fault, first, stray_byte}
+use Rattle.rbg_read.specs.Reads.{Fault, first, stray_byte}
 use Rattle.rbg_read.specs.declared.fault.GameFault.TheVariants as cause
 use Rattle.rbg_game.specs.declared.rules.Comparison.TheVariants as test
-use Rattle.rbg_text.proofs.Splitting.{splits-lex, lex-splits}
+use Rattle.rbg_text.proofs.Splits.{splits-lex, lex-splits}
 
 lit : Text → g.Factor
 lit n = g.positive (g.literal n)

@@ -3,7 +3,7 @@ use Rattle.std.proofs.Common.{◌≡◌, ◌==◌, ℕ, Bool, true, false, not, 
 use Rattle.std.proofs.lemmas.List.{length-map}
 use Rattle.std.specs.Vec.{vec_len}
 use Rattle.rbg_text.specs.Said.{declaration_view}
-use Rattle.rbg_read.specs.aid.Parts.{parts_view}
+use Rattle.rbg_read.specs.lemmas.Parts.{parts_view}
 use Rattle.rbg_read.specs.declared.parts.Parts.{Parts}
 
 -- the test holds before which none holds

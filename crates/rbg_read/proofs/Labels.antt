@@ -10,14 +10,15 @@ use Rattle.rbg_text.specs.Token.{Text}
 use Rattle.rbg_read.specs.Means.{first_appearances}
 use Rattle.rbg_text.specs.Said.{arrow_view, vertex_view}
 use Rattle.rbg_text.specs.declared.sections.Vertex.{Vertex}
-use Rattle.rbg_read.specs.aid.Parts.{labels_in, with_label}
+use Rattle.rbg_read.specs.lemmas.Parts.{labels_in, with_label}
 use Rattle.rbg_read.proofs.Lists.{map_map}
 
 is_new : List Text → Text → Bool
 is_new seen y = not (list_any (bytes_eq y) seen)
 
 -- two tests in a row keep what one test keeps
-both : {X : Type 0} (p q r : X → Bool) → ((x : X) → q x ≡ true → p x ≡ r x) → ((x : X) → q x ≡ false → r x ≡ false) → (xs : List X) → filter p (filter q xs) ≡ filter r xs
+both : {X : Type 0} (p q r : X → Bool) → ((x : X) → q x ≡ true → p x ≡ r x) → ((x : X) → q x ≡ false → r x ≡ false) → (xs : List X)
+    → filter p (filter q xs) ≡ filter r xs
 both p q r same none [] = refl
 both p q r same none (x ∷ xs) = elim (cases_Bool (q x)) [
   | inl is ↦ rw (is, same x is) (ap (λ ys. cond (r x) (x ∷ ys) ys) (both p q r same none xs))
@@ -76,11 +77,14 @@ grown seen [] = sym (append-nil seen)
 grown seen (x ∷ xs) = elim (cases_Bool (list_any (bytes_eq x) seen)) [
   | inl is ↦
       rw is
-      (grown seen xs ∙ ap (λ ys. seen ++ ys) (sym (both (is_new seen) (λ y. not (bytes_eq x y)) (is_new seen) (λ y h. refl) (λ y h. still_seen seen x y is h) (first_appearances xs))))
+      (grown seen xs ∙ ap (λ ys. seen ++ ys)
+      (sym (both (is_new seen) (λ y. not (bytes_eq x y)) (is_new seen) (λ y h. refl) (λ y h. still_seen seen x y is h) (first_appearances xs))))
   | inr isnt ↦
       rw isnt
       (grown (seen ++ x ∷ []) xs ∙ append_assoc seen (x ∷ []) (filter (is_new (seen ++ x ∷ [])) (first_appearances xs))
-      ∙ ap (λ ys. seen ++ x ∷ ys) (sym (both (is_new seen) (λ y. not (bytes_eq x y)) (is_new (seen ++ x ∷ [])) (λ y h. new_apart seen x y h) (λ y h. new_same seen x y h) (first_appearances xs))))
+      ∙ ap (λ ys. seen ++ x ∷ ys) (sym
+      (both (is_new seen) (λ y. not (bytes_eq x y)) (is_new (seen ++ x ∷ [])) (λ y h. new_apart seen x y h) (λ y h. new_same seen x y h)
+      (first_appearances xs))))
 ]
 
 all_new : (ys : List Text) → filter (is_new []) ys ≡ ys

@@ -1,15 +1,15 @@
-mod Walking
+mod Walks
 mod Steps
-mod Numbering
+mod NumberedActions
 mod ActionNumbers
 mod Lengths
-mod Placing
-mod Showing
-mod Cutting
+mod TokenPlaces
+mod ActionLines
+mod Stretches
 pub mod Collected
 pub mod Defaults
 pub mod EveryText
-pub mod ExampleReading
+pub mod ExampleReads
 pub mod Examples
 pub mod FlatNodes
 pub mod Labels
@@ -20,10 +20,10 @@ pub mod StepRules
 pub mod StepSizes
 pub mod StepSwitches
 pub mod StepTests
-pub mod TakeReading
+pub mod TakeReads
 pub mod TreeParts
-pub mod Passing
-pub mod OneReading
+pub mod Exits
+pub mod OneGame
 pub mod Outcome
 pub mod ShallowRules
 pub mod SmallExpressions

@@ -25,7 +25,8 @@ map_map g f (x ∷ xs) = ap (λ ys. g (f x) ∷ ys) (map_map g f xs)
 -- ---- a loop over a list that is mapped
 
 -- one turn of a fold
-pub fold_turn : {X Y S : Type 0} (g : S → Y → S) (s : S) (f : X → Y) (xs : List X) (i : ℕ) (d : X) → i < length xs → fold g s (take (i + 1) (map f xs)) ≡ g (fold g s (take i (map f xs))) (f (get_or xs i d))
+pub fold_turn : {X Y S : Type 0} (g : S → Y → S) (s : S) (f : X → Y) (xs : List X) (i : ℕ) (d : X) → i < length xs
+    → fold g s (take (i + 1) (map f xs)) ≡ g (fold g s (take i (map f xs))) (f (get_or xs i d))
 fold_turn g s f xs i d below =
     fold_more g s (map f xs) i (f d) (omega (arith, length-map xs f)) ∙ ap (g (fold g s (take i (map f xs)))) (get_or-map f xs i d (f d) below)
 
@@ -34,12 +35,15 @@ pub fold_end : {X Y S : Type 0} (g : S → Y → S) (s : S) (f : X → Y) (xs : 
 fold_end g s f xs i all = ap (fold g s) (take_all i (map f xs) (omega (arith, length-map xs f)))
 
 -- a turn after which the state stays the same
-pub fold_stops : {X Y S : Type 0} (g : S → Y → S) (z : S) → ((y : Y) → g z y ≡ z) → (s : S) (f : X → Y) (xs : List X) (i : ℕ) (d : X) → i < length xs → g (fold g s (take i (map f xs))) (f (get_or xs i d)) ≡ z → fold g s (map f xs) ≡ z
+pub fold_stops : {X Y S : Type 0} (g : S → Y → S) (z : S) → ((y : Y) → g z y ≡ z) → (s : S) (f : X → Y) (xs : List X) (i : ℕ) (d : X)
+    → i < length xs → g (fold g s (take i (map f xs))) (f (get_or xs i d)) ≡ z → fold g s (map f xs) ≡ z
 fold_stops g z stays s f xs i d below h =
-    sym (fold_stuck g z stays s (map f xs) i (f d) (omega (arith, length-map xs f)) (ap (g (fold g s (take i (map f xs)))) (get_or-map f xs i d (f d) below) ∙ h))
+    sym (fold_stuck g z stays s (map f xs) i (f d) (omega (arith, length-map xs f))
+    (ap (g (fold g s (take i (map f xs)))) (get_or-map f xs i d (f d) below) ∙ h))
 
 -- where no element passes a test, one of them does not
-pub none_at : {X Y : Type 0} (p : Y → Bool) (f : X → Y) (xs : List X) (i : ℕ) (d : X) → i < length xs → list_any p (map f xs) ≡ false → p (f (get_or xs i d)) ≡ false
+pub none_at : {X Y : Type 0} (p : Y → Bool) (f : X → Y) (xs : List X) (i : ℕ) (d : X) → i < length xs → list_any p (map f xs) ≡ false
+    → p (f (get_or xs i d)) ≡ false
 none_at p f xs i d below h = elim (cases_Bool (p (f (get_or xs i d)))) [
   | inl on ↦ (
       let some : list_any (λ y. p (f y)) xs ≡ true = list_any_at (λ y. p (f y)) xs i d below on in
@@ -56,22 +60,29 @@ none_here p xs i d below none = elim (cases_Bool (p (get_or xs i d))) [
 ]
 
 -- one turn of a loop that makes one list of another
-pub map_turn : {X Y Z : Type 0} (f : X → Z) (g : Y → Z) (made more : List X) (new : X) (ys : List Y) (i : ℕ) (d : Y) → i < length ys → more ≡ made ++ new ∷ [] → f new ≡ g (get_or ys i d) → map f made ≡ map g (take i ys) → map f more ≡ map g (take (i + 1) ys)
+pub map_turn : {X Y Z : Type 0} (f : X → Z) (g : Y → Z) (made more : List X) (new : X) (ys : List Y) (i : ℕ) (d : Y) → i < length ys
+    → more ≡ made ++ new ∷ [] → f new ≡ g (get_or ys i d) → map f made ≡ map g (take i ys) → map f more ≡ map g (take (i + 1) ys)
 map_turn f g made more new ys i d below pushed same so_far =
-    ap (map f) pushed ∙ map_push f made new ∙ ap (λ zs. map f made ++ zs ∷ []) same ∙ ap (λ zs. zs ++ g (get_or ys i d) ∷ []) so_far ∙ sym (map_more g ys i d below)
+    ap (map f) pushed ∙ map_push f made new ∙ ap (λ zs. map f made ++ zs ∷ []) same ∙ ap (λ zs. zs ++ g (get_or ys i d) ∷ []) so_far
+    ∙ sym (map_more g ys i d below)
 
 -- the same after a list that was there
-pub turn_behind : {X Y Z : Type 0} (f : X → Z) (g : Y → Z) (made more : List X) (new : X) (old : List Z) (ys : List Y) (i : ℕ) (d : Y) → i < length ys → more ≡ made ++ new ∷ [] → f new ≡ g (get_or ys i d) → map f made ≡ old ++ map g (take i ys) → map f more ≡ old ++ map g (take (i + 1) ys)
+pub turn_behind : {X Y Z : Type 0} (f : X → Z) (g : Y → Z) (made more : List X) (new : X) (old : List Z) (ys : List Y) (i : ℕ) (d : Y)
+    → i < length ys → more ≡ made ++ new ∷ [] → f new ≡ g (get_or ys i d) → map f made ≡ old ++ map g (take i ys) → map f more ≡ old ++ map g (take (i + 1) ys)
 turn_behind f g made more new old ys i d below pushed same so_far =
-    ap (map f) pushed ∙ map_push f made new ∙ ap (λ z. map f made ++ z ∷ []) same ∙ ap (λ zs. zs ++ g (get_or ys i d) ∷ []) so_far ∙ append_assoc old (map g (take i ys)) (g (get_or ys i d) ∷ []) ∙ ap (λ zs. old ++ zs) (sym (map_more g ys i d below))
+    ap (map f) pushed ∙ map_push f made new ∙ ap (λ z. map f made ++ z ∷ []) same ∙ ap (λ zs. zs ++ g (get_or ys i d) ∷ []) so_far
+    ∙ append_assoc old (map g (take i ys)) (g (get_or ys i d) ∷ []) ∙ ap (λ zs. old ++ zs) (sym (map_more g ys i d below))
 
 -- the same where the new list is of what is made of the elements
-pub plain_behind : {Y Z : Type 0} (g : Y → Z) (made more : List Z) (new : Z) (old : List Z) (ys : List Y) (i : ℕ) (d : Y) → i < length ys → more ≡ made ++ new ∷ [] → new ≡ g (get_or ys i d) → made ≡ old ++ map g (take i ys) → more ≡ old ++ map g (take (i + 1) ys)
+pub plain_behind : {Y Z : Type 0} (g : Y → Z) (made more : List Z) (new : Z) (old : List Z) (ys : List Y) (i : ℕ) (d : Y) → i < length ys
+    → more ≡ made ++ new ∷ [] → new ≡ g (get_or ys i d) → made ≡ old ++ map g (take i ys) → more ≡ old ++ map g (take (i + 1) ys)
 plain_behind g made more new old ys i d below pushed same so_far =
-    pushed ∙ ap (λ z. made ++ z ∷ []) same ∙ ap (λ zs. zs ++ g (get_or ys i d) ∷ []) so_far ∙ append_assoc old (map g (take i ys)) (g (get_or ys i d) ∷ []) ∙ ap (λ zs. old ++ zs) (sym (map_more g ys i d below))
+    pushed ∙ ap (λ z. made ++ z ∷ []) same ∙ ap (λ zs. zs ++ g (get_or ys i d) ∷ []) so_far
+    ∙ append_assoc old (map g (take i ys)) (g (get_or ys i d) ∷ []) ∙ ap (λ zs. old ++ zs) (sym (map_more g ys i d below))
 
 -- after the last turn
-pub end_behind : {Y Z : Type 0} (g : Y → Z) {all : List Z} (old : List Z) (ys : List Y) (i : ℕ) → length ys ≤ i → all ≡ old ++ map g (take i ys) → all ≡ old ++ map g ys
+pub end_behind : {Y Z : Type 0} (g : Y → Z) {all : List Z} (old : List Z) (ys : List Y) (i : ℕ) → length ys ≤ i → all ≡ old
+    ++ map g (take i ys) → all ≡ old ++ map g ys
 end_behind g old ys i over so_far = so_far ∙ ap (λ zs. old ++ map g zs) (take_all i ys over)
 
 -- a list of two that are mapped twice

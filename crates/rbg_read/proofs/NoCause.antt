@@ -5,8 +5,8 @@ use Rattle.std.specs.List.{list_any}
 use Rattle.std.proofs.lemmas.Bool.{or_parts, eqb-true, ltb-false, not-false}
 use Rattle.std.proofs.lemmas.List.{length-map, length-append}
 use Rattle.rbg_text.specs.Said.{declaration_view}
-use Rattle.rbg_read.specs.aid.Flat.{flat_cause, uses_unknown, repeats_name, has_large, is_past_a_limit, is_large_number, has_large_bound}
-use Rattle.rbg_read.specs.aid.Parts.{Parts, Known, known_of, AreFew, parts_view}
+use Rattle.rbg_read.specs.lemmas.Flat.{flat_cause, uses_unknown, repeats_name, has_large, is_past_a_limit, is_large_number, has_large_bound}
+use Rattle.rbg_read.specs.lemmas.Parts.{Parts, Known, known_of, AreFew, parts_view}
 use Rattle.rbg_read.specs.declared.fault.GameFault.{GameFault}
 use Rattle.rbg_read.specs.declared.parts.Parts.{Parts as CodeParts}
 use Rattle.rbg_read.proofs.Lists.{any_map}
@@ -26,7 +26,8 @@ few known p named two h =
     let players_are : length known.players ≡ 2 = ap (λ k. length k.players) named ∙ length-map p.players (λ d. d.name) ∙ two in
     let values_are : length known.values ≡ 2 + length p.variables =
     ap (λ k. length k.values) named ∙ length-append (map (λ d. d.name) p.players) (map (λ d. d.name) p.variables)
-    ∙ ap (λ n. n + length (map (λ d. d.name) p.variables)) (length-map p.players (λ d. d.name) ∙ two) ∙ ap (λ n. 2 + n) (length-map p.variables (λ d. d.name)) in
+    ∙ ap (λ n. n + length (map (λ d. d.name) p.variables)) (length-map p.players (λ d. d.name) ∙ two)
+    ∙ ap (λ n. 2 + n) (length-map p.variables (λ d. d.name)) in
     record {
       players_few = omega arith;
       values_few = omega arith;

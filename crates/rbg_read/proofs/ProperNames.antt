@@ -20,7 +20,7 @@ use Rattle.rbg_text.specs.declared.token.Sign.TheVariants.{Plus, Minus, Star, Cl
 use Rattle.rbg_read.specs.Means.{names_of, values_of, players_of, pieces_of, variables_of, vertices_of, declared, vertex, Names, first_appearances}
 use Rattle.rbg_read.specs.Causes.{has_repeat, has_wrong_sections, has_not_two_players, has_unknown_name, has_repeated_name, first_cause}
 use Rattle.rbg_read.proofs.SoundGames.{passed}
-use Rattle.rbg_read.specs.Reading.{Reads, reads}
+use Rattle.rbg_read.specs.Reads.{Reads, reads}
 
 -- ---- tokens of a split
 
@@ -38,7 +38,8 @@ split_fine (Splits.token gap takes rest) = (takes.token, split_fine rest)
 abbrev Named : Text → Type 0
 Named w = IsToken (Token.name w)
 
-further_behind : {X : Type 0} (said : X → Tokens → Tokens) (P : X → Type 0) → ((x : X) (rest : Tokens) → Fine (said x rest) → P x × Fine rest) → (xs : List X) (rest : Tokens) → Fine (g.further said xs rest)
+further_behind : {X : Type 0} (said : X → Tokens → Tokens) (P : X → Type 0)
+    → ((x : X) (rest : Tokens) → Fine (said x rest) → P x × Fine rest) → (xs : List X) (rest : Tokens) → Fine (g.further said xs rest)
     → All P xs × Fine rest
 unfolding Fine
 further_behind said P each [] rest h = (All-nil P, h)
@@ -47,7 +48,8 @@ further_behind said P each (x ∷ xs) rest h =
     let more = further_behind said P each xs rest one.1 in
     (All-cons P x xs one.0 more.0, more.1)
 
-commas_behind : {X : Type 0} (said : X → Tokens → Tokens) (P : X → Type 0) → ((x : X) (rest : Tokens) → Fine (said x rest) → P x × Fine rest) → (xs : List X) (rest : Tokens) → Fine (g.commas said xs rest)
+commas_behind : {X : Type 0} (said : X → Tokens → Tokens) (P : X → Type 0)
+    → ((x : X) (rest : Tokens) → Fine (said x rest) → P x × Fine rest) → (xs : List X) (rest : Tokens) → Fine (g.commas said xs rest)
     → All P xs × Fine rest
 commas_behind said P each [] rest h = (All-nil P, h)
 commas_behind said P each (x ∷ xs) rest h =
@@ -177,16 +179,25 @@ section_behind (g.variables all) rest h =
     (record { players_are = no_declarations; pieces_are = no_names; variables_are = each.0; vertices_are = no_vertices }, each.1)
 section_behind (g.board head more) rest h =
     let one = vertex_behind head (g.further_vertices more rest) h.1.1.1 in
-    let others = vertices_behind more rest one.1 in
-    (record { players_are = no_declarations; pieces_are = no_names; variables_are = no_declarations; vertices_are = All-cons NamedVertex head (map further_vertex more) one.0 others.0 }, others.1)
+    let others = vertices_behind more rest one.1 in (
+      record {
+        players_are = no_declarations;
+        pieces_are = no_names;
+        variables_are = no_declarations;
+        vertices_are = All-cons NamedVertex head (map further_vertex more) one.0 others.0;
+      },
+      others.1,
+    )
 section_behind (g.rules s) rest h =
     (record { players_are = no_declarations; pieces_are = no_names; variables_are = no_declarations; vertices_are = no_vertices }, sum_behind s rest h.1.1.1)
 
 -- one section more
-more_of : {X : Type 0} (P : X → Type 0) (f : Section → List X) (s : Section) (all : List Section) → All P (f s) → All P (flat_map f all) → All P (flat_map f (s ∷ all))
+more_of : {X : Type 0} (P : X → Type 0) (f : Section → List X) (s : Section) (all : List Section) → All P (f s) → All P (flat_map f all)
+    → All P (flat_map f (s ∷ all))
 more_of P f s all h k = subst (All P) (sym (flat_map-cons f s all)) (All-append P (f s) (flat_map f all) h k)
 
-text_named : (all : List Section) → Fine (g.text all) → AreNamed (flat_map players_of all) (flat_map pieces_of all) (flat_map variables_of all) (flat_map vertices_of all)
+text_named : (all : List Section) → Fine (g.text all) → AreNamed (flat_map players_of all) (flat_map pieces_of all)
+    (flat_map variables_of all) (flat_map vertices_of all)
 text_named [] h = record { players_are = no_declarations; pieces_are = no_names; variables_are = no_declarations; vertices_are = no_vertices }
 text_named (s ∷ all) h =
     let one = section_behind s (g.text all) h in
@@ -276,17 +287,22 @@ proper text game (reads {ts = ts} {all = all} short flat parses fine means) =
     let named = text_named all fine_tokens in
     let h5 = not_repeated all fine in
     let repeats = or_parts (has_repeat (values_of (names_of all)) || has_repeat (flat_map pieces_of all) || has_repeat (map (λ v. v.name) vertices)) _ h5 in
-    let first_three = or_parts (has_repeat (values_of (names_of all)) || has_repeat (flat_map pieces_of all)) (has_repeat (map (λ v. v.name) vertices)) repeats.0 in
+    let first_three = or_parts (has_repeat (values_of (names_of all)) || has_repeat (flat_map pieces_of all))
+    (has_repeat (map (λ v. v.name) vertices)) repeats.0 in
     let first_two = or_parts (has_repeat (values_of (names_of all))) (has_repeat (flat_map pieces_of all)) first_three.0 in
     let value_names : map (λ v. v.name) game.variables ≡ values_of (names_of all) =
     ap (map (λ v. v.name)) means.variables ∙ declared_names (players ++ variables) ∙ map-append (λ d. d.name) players variables in
-    let board_names : map (λ v. v.name) game.vertices ≡ map (λ v. v.name) vertices = ap (map (λ v. v.name)) means.vertices ∙ vertex_names (names_of all) vertices in
+    let board_names : map (λ v. v.name) game.vertices ≡ map (λ v. v.name) vertices = ap (map (λ v. v.name)) means.vertices
+    ∙ vertex_names (names_of all) vertices in
     record {
       pieces_plain = subst (All IsPlainName) (sym means.pieces) (all_plain (flat_map pieces_of all) named.pieces_are);
-      vertices_plain = subst (All IsPlainName) (sym board_names) (all_plain (map (λ v. v.name) vertices) (All-map Named (λ v. v.name) vertices (λ k d lt. (named.vertices_are k d lt).0)));
+      vertices_plain = subst (All IsPlainName) (sym board_names)
+          (all_plain (map (λ v. v.name) vertices) (All-map Named (λ v. v.name) vertices (λ k d lt. (named.vertices_are k d lt).0)));
       variables_plain = subst (All IsPlainName) (sym value_names) (all_plain (values_of (names_of all))
-          (All-append Named (map (λ d. d.name) players) (map (λ d. d.name) variables) (All-map Named (λ d. d.name) players named.players_are) (All-map Named (λ d. d.name) variables named.variables_are)));
-      labels_plain = subst (All IsPlainName) (sym means.labels) (all_plain (names_of all).labels (first_named Named (flat_map labels_at vertices) (labels_named vertices named.vertices_are)));
+          (All-append Named (map (λ d. d.name) players) (map (λ d. d.name) variables)
+          (All-map Named (λ d. d.name) players named.players_are) (All-map Named (λ d. d.name) variables named.variables_are)));
+      labels_plain = subst (All IsPlainName) (sym means.labels)
+          (all_plain (names_of all).labels (first_named Named (flat_map labels_at vertices) (labels_named vertices named.vertices_are)));
       pieces_differ = subst (AllPairs ◌≢◌) (sym means.pieces) (differ (flat_map pieces_of all) first_two.1);
       vertices_differ = subst (AllPairs ◌≢◌) (sym board_names) (differ (map (λ v. v.name) vertices) first_three.1);
       variables_differ = subst (AllPairs ◌≢◌) (sym value_names) (differ (values_of (names_of all)) first_two.0);

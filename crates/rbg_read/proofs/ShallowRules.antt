@@ -5,14 +5,14 @@ use Rattle.rbg_text.specs.Syntax as g
 use Rattle.rbg_text.specs.Token.{Text}
 use Rattle.rbg_text.specs.Syntax.{Section}
 use Rattle.rbg_text.specs.NestingCount.{nesting}
-use Rattle.rbg_text.specs.aid.Postfix.{expr_depth, term_depth, factor_depth, atom_depth, assignments_depth, sum_depth, concat_depth, element_depth, base_depth}
+use Rattle.rbg_text.specs.lemmas.Postfix.{expr_depth, term_depth, factor_depth, atom_depth, assignments_depth, sum_depth, concat_depth, element_depth, base_depth}
 use Rattle.rbg_text.proofs.SectionsComplete.{AreShallow, with_section}
-use Rattle.rbg_text.proofs.SectionsNesting.{all_shallow}
+use Rattle.rbg_text.proofs.SectionsDepth.{all_shallow}
 use Rattle.rbg_game.specs.Rules.{Regex, cat}
 use Rattle.rbg_game.specs.Games.{Game}
 use Rattle.rbg_read.specs.Means.{Names, names_of, expression, product_expression, factor_expression, atom_expression, assignment, sum_rules, concat_rules, element_rules, base_rules, rules_of}
-use Rattle.rbg_read.specs.Reading.{Reads, reads}
-use Rattle.rbg_read.specs.aid.Depths.{plain, sum_of, product_of, expression_depths, rules_depths, AreWithin}
+use Rattle.rbg_read.specs.Reads.{Reads, reads}
+use Rattle.rbg_read.specs.lemmas.Depths.{plain, sum_of, product_of, expression_depths, rules_depths, AreWithin}
 
 module _ (names : Names) where
   -- ---- expressions
@@ -94,7 +94,8 @@ module _ (names : Names) where
     base_shallow (g.assign a more) =
         let n : ℕ = 4 * assignments_depth (a ∷ more) + 6 in
         let p = one_assignment a in
-        let q = more_assignments (assignment names a) more n (omega arith) (record { whole = omega (arith, p.whole); terms = omega (arith, p.terms); factors = omega (arith, p.factors) }) in
+        let q = more_assignments (assignment names a) more n (omega arith)
+        (record { whole = omega (arith, p.whole); terms = omega (arith, p.terms); factors = omega (arith, p.factors) }) in
         record { whole = omega (arith, q.whole); terms = omega (arith, q.terms); factors = omega (arith, q.factors) }
     base_shallow (g.compare l t r) =
         let p = expr_shallow l in

@@ -91,15 +91,19 @@ module _ (names : Names) (bounds : List ℕ) where
     named (plus e t) h = let p = none_parts (is_unknown (values_of names)) (names_in e) (names_in_term t) h in (named e p.0, term_named t p.1)
     named (minus e t) h = let p = none_parts (is_unknown (values_of names)) (names_in e) (names_in_term t) h in (named e p.0, term_named t p.1)
 
-    term_named : (t : Term) → list_any (is_unknown (values_of names)) (names_in_term t) ≡ false → NamesBelow (length (values_of names)) (product_expression names t)
+    term_named : (t : Term) → list_any (is_unknown (values_of names)) (names_in_term t) ≡ false
+        → NamesBelow (length (values_of names)) (product_expression names t)
     term_named (product_of f) h = factor_named f h
-    term_named (times t f) h = let p = none_parts (is_unknown (values_of names)) (names_in_term t) (names_in_factor f) h in (term_named t p.0, factor_named f p.1)
+    term_named (times t f) h = let p = none_parts (is_unknown (values_of names)) (names_in_term t) (names_in_factor f) h in
+        (term_named t p.0, factor_named f p.1)
 
-    factor_named : (f : Factor) → list_any (is_unknown (values_of names)) (names_in_factor f) ≡ false → NamesBelow (length (values_of names)) (factor_expression names f)
+    factor_named : (f : Factor) → list_any (is_unknown (values_of names)) (names_in_factor f) ≡ false
+        → NamesBelow (length (values_of names)) (factor_expression names f)
     factor_named (positive a) h = atom_named a h
     factor_named (negative a) h = atom_named a h
 
-    atom_named : (a : Atom) → list_any (is_unknown (values_of names)) (names_in_atom a) ≡ false → NamesBelow (length (values_of names)) (atom_expression names a)
+    atom_named : (a : Atom) → list_any (is_unknown (values_of names)) (names_in_atom a) ≡ false
+        → NamesBelow (length (values_of names)) (atom_expression names a)
     atom_named (literal n) h = tt
     atom_named (Atom.variable v) h = index_below (values_of names) v (or_parts (is_unknown (values_of names) v) false h).0
     atom_named (parenthesized e) h = named e h

@@ -18,7 +18,7 @@ use Rattle.rbg_game.specs.Sound.{IsSoundArrow, IsSoundVertex, IsSoundGame}
 use Rattle.rbg_read.specs.Means.{decimal, first_appearances, Names, names_of, values_of, players_of, pieces_of, variables_of, vertices_of, rules_of, sum_rules, declared, arrow, vertex, Means}
 use Rattle.rbg_text.specs.Said.{further_vertex}
 use Rattle.rbg_read.specs.Causes.{actions_in, expressions_of, all_actions, is_board, has_wrong_sections, has_not_two_players, is_unknown, action_uses_unknown, vertex_uses_unknown, has_unknown_name, has_repeated_name, is_too_large, has_large_number, action_count, passes_a_limit, bounds_of, is_large, has_large_expression, has_switch_inside, has_switch_in_pattern, first_cause}
-use Rattle.rbg_read.specs.Reading.{Reads, reads}
+use Rattle.rbg_read.specs.Reads.{Reads, reads}
 use Rattle.rbg_read.specs.declared.fault.GameFault.{GameFault}
 use Rattle.rbg_read.proofs.SmallExpressions.{index_below, none_parts}
 use Rattle.rbg_read.proofs.SoundRules.{all_from, each_parts, Fine, sound, count_is, count_within}
@@ -66,12 +66,15 @@ all_known : (ls : List Text) → AllByRecursion (Known (first_appearances ls)) l
 unfolding Known
 all_known ls =
     each_of (Known (first_appearances ls)) ls
-    (λ k d l. not_from_true _ (known_first (get_or ls k d) ls (list_any_at (bytes_eq (get_or ls k d)) ls k d l ((bytes_eq-Decides (get_or ls k d) (get_or ls k d)).1 refl))))
+    (λ k d l. not_from_true _ (known_first (get_or ls k d) ls
+    (list_any_at (bytes_eq (get_or ls k d)) ls k d l ((bytes_eq-Decides (get_or ls k d) (get_or ls k d)).1 refl))))
 
 -- ---- the board
 
-module _ (names : Names) (game : Game) (labels_are : length game.labels ≡ length names.labels) (pieces_are : length game.pieces ≡ length names.pieces) (vertices_are : length game.vertices ≡ length names.vertices) where
-  arrows_sound : (arrows : List g.WrittenArrow) → list_any (λ a. is_unknown names.vertices a.to) arrows ≡ false → AllByRecursion (Known names.labels) (map (λ a. a.label) arrows) → All (IsSoundArrow game) (map (arrow names) arrows)
+module _ (names : Names) (game : Game) (labels_are : length game.labels ≡ length names.labels)
+    (pieces_are : length game.pieces ≡ length names.pieces) (vertices_are : length game.vertices ≡ length names.vertices) where
+  arrows_sound : (arrows : List g.WrittenArrow) → list_any (λ a. is_unknown names.vertices a.to) arrows ≡ false
+      → AllByRecursion (Known names.labels) (map (λ a. a.label) arrows) → All (IsSoundArrow game) (map (arrow names) arrows)
   unfolding Known
   arrows_sound [] h known = All-nil (IsSoundArrow game)
   arrows_sound (a ∷ more) h known =
@@ -80,7 +83,8 @@ module _ (names : Names) (game : Game) (labels_are : length game.labels ≡ leng
       (omega (arith, index_below names.labels a.label known.0, labels_are), omega (arith, index_below names.vertices a.to p.0, vertices_are))
       (arrows_sound more p.1 known.1)
 
-  vertices_sound : (vs : List g.WrittenVertex) → list_any (vertex_uses_unknown names) vs ≡ false → AllByRecursion (Known names.labels) (flat_map (λ v. map (λ a. a.label) v.arrows) vs) → All (IsSoundVertex game) (map (vertex names) vs)
+  vertices_sound : (vs : List g.WrittenVertex) → list_any (vertex_uses_unknown names) vs ≡ false
+      → AllByRecursion (Known names.labels) (flat_map (λ v. map (λ a. a.label) v.arrows) vs) → All (IsSoundVertex game) (map (vertex names) vs)
   vertices_sound [] h known = All-nil (IsSoundVertex game)
   vertices_sound (v ∷ vs) h known =
       let p = or_parts (vertex_uses_unknown names v) (list_any (vertex_uses_unknown names) vs) h in
@@ -97,7 +101,12 @@ board_some (g.players first more ∷ all) = omega (arith, sum_by-cons (λ x. con
 board_some (g.pieces first more ∷ all) = omega (arith, sum_by-cons (λ x. cond (is_board x) 1 0) (g.pieces first more) all, board_some all)
 board_some (g.variables some ∷ all) = omega (arith, sum_by-cons (λ x. cond (is_board x) 1 0) (g.variables some) all, board_some all)
 board_some (g.board first more ∷ all) =
-    omega (arith, sum_by-cons (λ x. cond (is_board x) 1 0) (g.board first more) all, board_some all, length-append (map further_vertex more) (flat_map vertices_of all))
+    omega (
+      arith,
+      sum_by-cons (λ x. cond (is_board x) 1 0) (g.board first more) all,
+      board_some all,
+      length-append (map further_vertex more) (flat_map vertices_of all),
+    )
 board_some (g.rules s ∷ all) = omega (arith, sum_by-cons (λ x. cond (is_board x) 1 0) (g.rules s) all, board_some all)
 
 -- ---- variables
@@ -111,7 +120,9 @@ numbers_fit ds h = all_from (λ d. is_too_large d.bound) (λ d. decimal d.bound 
 
 -- ---- actions
 
-fine_all : (names : Names) (limits : List ℕ) (bs : List Base) → list_any (action_uses_unknown names) bs ≡ false → list_any (is_large (values_of names) limits) (flat_map expressions_of bs) ≡ false → list_any has_switch_inside bs ≡ false → AllByRecursion (Fine names limits) bs
+fine_all : (names : Names) (limits : List ℕ) (bs : List Base) → list_any (action_uses_unknown names) bs ≡ false
+    → list_any (is_large (values_of names) limits) (flat_map expressions_of bs) ≡ false → list_any has_switch_inside bs ≡ false
+    → AllByRecursion (Fine names limits) bs
 fine_all names limits [] known fits free = tt
 fine_all names limits (b ∷ bs) known fits free =
     let p = or_parts (action_uses_unknown names b) (list_any (action_uses_unknown names) bs) known in
@@ -134,7 +145,8 @@ is_tree_game : (all : List Section) (game : Game) → Means all game → (s : Su
 unfolding tree_game
 is_tree_game all game means = go (flat_map rules_of all) refl means.rules
   where
-    go : (rules : List Sum) → flat_map rules_of all ≡ rules → game.rules ∷ [] ≡ map (sum_rules (names_of all)) rules → (s : Sum) × (flat_map rules_of all ≡ s ∷ []) × (game ≡ tree_game all s)
+    go : (rules : List Sum) → flat_map rules_of all ≡ rules → game.rules ∷ [] ≡ map (sum_rules (names_of all)) rules → (s : Sum)
+        × (flat_map rules_of all ≡ s ∷ []) × (game ≡ tree_game all s)
     go [] e h = absurd (cc)
     go (s ∷ []) e h =
         let same : game.rules ≡ sum_rules (names_of all) s = cc in
@@ -184,12 +196,14 @@ tree_sound all s one h =
     record {
       has_players = omega (arith, count, both, two);
       few_variables = omega (arith, count, both, two, variable_count, few);
-      bounds_fit = All-map (λ v. v.bound ≤ 1000000) declared (players ++ variables) (All-append (λ d. decimal d.bound ≤ 1000000) players variables (numbers_fit players declarations.0) (numbers_fit variables declarations.1));
+      bounds_fit = All-map (λ v. v.bound ≤ 1000000) declared (players ++ variables)
+          (All-append (λ d. decimal d.bound ≤ 1000000) players variables (numbers_fit players declarations.0) (numbers_fit variables declarations.1));
       few_pieces = ltb-false 64 _ many_pieces.1;
       few_labels = ltb-false 64 _ many_labels.1;
       has_vertex = omega (arith, board_some all, boards, vertex_count);
       few_vertices = omega (arith, ltb-false 128 (length names.vertices) many_labels.0, vertex_count, vertex_names);
-      vertices_are = vertices_sound names (tree_game all s) refl refl (vertex_count ∙ sym vertex_names) vertices unknown.0 (all_known (flat_map (λ v. map (λ a. a.label) v.arrows) vertices));
+      vertices_are = vertices_sound names (tree_game all s) refl refl (vertex_count ∙ sym vertex_names) vertices unknown.0
+          (all_known (flat_map (λ v. map (λ a. a.label) v.arrows) vertices));
       few_actions = omega (arith, count_is names s, ap (λ bs. sum_by action_count bs) actions, limited);
       rules_are = sound names (bounds_of all) (tree_game all s) refl refl values (limits_are (players ++ variables)) s
           (subst (λ bs. AllByRecursion (Fine names (bounds_of all)) bs) actions (fine_all names (bounds_of all) (all_actions all) unknown.1 h8.0 h9.0));

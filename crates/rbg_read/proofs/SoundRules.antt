@@ -114,7 +114,9 @@ abbrev pub Fine : Names → List ℕ → Base → Type 0
 Fine names limits b =
     (action_uses_unknown names b ≡ false) × (list_any (is_large (values_of names) limits) (expressions_of b) ≡ false) × (has_switch_inside b ≡ false)
 
-module _ (names : Names) (limits : List ℕ) (game : Game) (labels_are : length game.labels ≡ length names.labels) (pieces_are : length game.pieces ≡ length names.pieces) (values_are : length game.variables ≡ length (values_of names)) (bounds_are : bounds game ≡ limits) where
+module _ (names : Names) (limits : List ℕ) (game : Game) (labels_are : length game.labels ≡ length names.labels)
+    (pieces_are : length game.pieces ≡ length names.pieces) (values_are : length game.variables ≡ length (values_of names))
+    (bounds_are : bounds game ≡ limits) where
   piece_below : (w : Text) → is_unknown names.pieces w ≡ false → index_of names.pieces w < length game.pieces
   piece_below w h = omega (arith, index_below names.pieces w h, pieces_are)
 
@@ -124,12 +126,15 @@ module _ (names : Names) (limits : List ℕ) (game : Game) (labels_are : length 
     subst (λ bs. HasSmallParts bs (expression names e)) (sym bounds_are) (small names limits e fits),
   )
 
-  sound_assignment : (a : Assignment) → is_unknown (values_of names) a.target || uses_unknown_value names a.value ≡ false → is_large (values_of names) limits a.value ≡ false → IsSoundRegex game (assignment names a)
+  sound_assignment : (a : Assignment) → is_unknown (values_of names) a.target || uses_unknown_value names a.value ≡ false
+      → is_large (values_of names) limits a.value ≡ false → IsSoundRegex game (assignment names a)
   sound_assignment a known fits =
       let p = or_parts (is_unknown (values_of names) a.target) (uses_unknown_value names a.value) known in
       (omega (arith, index_below (values_of names) a.target p.0, values_are), sound_expression a.value p.1 fits)
 
-  sound_more : (r : Regex) (more : List Assignment) → IsSoundRegex game r → list_any (λ a. is_unknown (values_of names) a.target || uses_unknown_value names a.value) more ≡ false → list_any (is_large (values_of names) limits) (map (λ a. a.value) more) ≡ false → IsSoundRegex game (fold Regex.cat r (map (assignment names) more))
+  sound_more : (r : Regex) (more : List Assignment) → IsSoundRegex game r
+      → list_any (λ a. is_unknown (values_of names) a.target || uses_unknown_value names a.value) more ≡ false
+      → list_any (is_large (values_of names) limits) (map (λ a. a.value) more) ≡ false → IsSoundRegex game (fold Regex.cat r (map (assignment names) more))
   sound_more r [] h known fits = h
   sound_more r (a ∷ more) h known fits =
       let p = or_parts _ _ known in

@@ -9,8 +9,8 @@ use Rattle.rbg_text.specs.Postfix.{expr_onto, term_onto, factor_onto, atom_onto,
 use Rattle.rbg_game.specs.Rules.{Regex, Action}
 use Rattle.rbg_read.specs.Means.{Names, values_of, index_of, expression, product_expression, factor_expression, atom_expression, sum_rules, concat_rules, element_rules, base_rules}
 use Rattle.rbg_read.specs.Means as means
-use Rattle.rbg_read.specs.aid.Parts.{Known}
-use Rattle.rbg_read.specs.aid.Resolve.{Stack, empty_stack, push_expression, push_rules, push_action, finished_set, finished, performed, after_step, first_rules, resolved}
+use Rattle.rbg_read.specs.lemmas.Parts.{Known}
+use Rattle.rbg_read.specs.lemmas.Resolve.{Stack, empty_stack, push_expression, push_rules, push_action, finished_set, finished, performed, after_step, first_rules, resolved}
 use Rattle.rbg_read.proofs.StepTests.{known_from}
 use Rattle.rbg_read.proofs.StepSizes.{fold_push}
 
@@ -41,7 +41,8 @@ module _ (names : Names) where
   push xs x = fold_push (after_step known) empty_stack xs x
 
   -- a step that begins no set
-  one : (xs : List ParseStep) (x : ParseStep) (s : Stack) → after_step known (run xs) x ≡ performed known x (after xs) → ((s : Stack) → (performed known x s).set ≡ s.set) → after xs ≡ s → after (xs ++ x ∷ []) ≡ performed known x s
+  one : (xs : List ParseStep) (x : ParseStep) (s : Stack) → after_step known (run xs) x ≡ performed known x (after xs)
+      → ((s : Stack) → (performed known x s).set ≡ s.set) → after xs ≡ s → after (xs ++ x ∷ []) ≡ performed known x s
   one xs x s is keeps before =
       ap finished (push xs x ∙ is) ∙ finished_once (performed known x (after xs)) (keeps (after xs) ∙ closed (run xs)) ∙ ap (performed known x) before
 
@@ -51,14 +52,17 @@ module _ (names : Names) where
     in_expr : (e : Expr) (out : List ParseStep) → after (expr_onto e out) ≡ push_expression (expression names e) (after out)
     in_expr (g.sum_of t) out = in_term t out
     in_expr (g.plus e t) out =
-        one (term_onto t (expr_onto e out)) ParseStep.add _ refl (λ s. refl) (in_term t (expr_onto e out) ∙ ap (push_expression (product_expression names t)) (in_expr e out))
+        one (term_onto t (expr_onto e out)) ParseStep.add _ refl (λ s. refl)
+        (in_term t (expr_onto e out) ∙ ap (push_expression (product_expression names t)) (in_expr e out))
     in_expr (g.minus e t) out =
-        one (term_onto t (expr_onto e out)) ParseStep.subtract _ refl (λ s. refl) (in_term t (expr_onto e out) ∙ ap (push_expression (product_expression names t)) (in_expr e out))
+        one (term_onto t (expr_onto e out)) ParseStep.subtract _ refl (λ s. refl)
+        (in_term t (expr_onto e out) ∙ ap (push_expression (product_expression names t)) (in_expr e out))
 
     in_term : (t : g.Term) (out : List ParseStep) → after (term_onto t out) ≡ push_expression (product_expression names t) (after out)
     in_term (g.product_of f) out = in_factor f out
     in_term (g.times t f) out =
-        one (factor_onto f (term_onto t out)) ParseStep.multiply _ refl (λ s. refl) (in_factor f (term_onto t out) ∙ ap (push_expression (factor_expression names f)) (in_term t out))
+        one (factor_onto f (term_onto t out)) ParseStep.multiply _ refl (λ s. refl)
+        (in_factor f (term_onto t out) ∙ ap (push_expression (factor_expression names f)) (in_term t out))
 
     in_factor : (f : g.Factor) (out : List ParseStep) → after (factor_onto f out) ≡ push_expression (factor_expression names f) (after out)
     in_factor (g.positive a) out = in_atom a out
@@ -74,13 +78,16 @@ module _ (names : Names) where
   abbrev with_set : List ℕ → Stack → Stack
   with_set pieces s = record s { set = Some pieces }
 
-  amongs : (ws : List Text) (out : List ParseStep) (pieces : List ℕ) (s : Stack) → run out ≡ with_set pieces s → run (among_onto ws out) ≡ with_set (pieces ++ map (index_of names.pieces) ws) s
+  amongs : (ws : List Text) (out : List ParseStep) (pieces : List ℕ) (s : Stack) → run out ≡ with_set pieces s
+      → run (among_onto ws out) ≡ with_set (pieces ++ map (index_of names.pieces) ws) s
   amongs [] out pieces s is = is ∙ ap (λ ps. with_set ps s) (sym (append-nil pieces))
   amongs (w ∷ ws) out pieces s is =
-      amongs ws (out ++ ParseStep.among w ∷ []) (pieces ++ index_of names.pieces w ∷ []) s (push out (ParseStep.among w) ∙ ap (λ t. after_step known t (ParseStep.among w)) is)
+      amongs ws (out ++ ParseStep.among w ∷ []) (pieces ++ index_of names.pieces w ∷ []) s
+      (push out (ParseStep.among w) ∙ ap (λ t. after_step known t (ParseStep.among w)) is)
       ∙ ap (λ ps. with_set ps s) (append_assoc pieces (index_of names.pieces w ∷ []) (map (index_of names.pieces) ws))
 
-  set : (ws : List Text) (out : List ParseStep) → after (among_onto ws (out ++ ParseStep.on ∷ [])) ≡ push_action (Action.on (map (index_of names.pieces) ws)) (after out)
+  set : (ws : List Text) (out : List ParseStep) → after (among_onto ws (out ++ ParseStep.on ∷ [])) ≡ push_action
+      (Action.on (map (index_of names.pieces) ws)) (after out)
   set ws out =
       ap finished (amongs ws (out ++ ParseStep.on ∷ []) [] (after out) (push out ParseStep.on))
       ∙ (λ i. push_action (Action.on (map (index_of names.pieces) ws)) (record (after out) { set = sym (closed (run out)) i }))
@@ -90,7 +97,8 @@ module _ (names : Names) where
   assignment : (a : Assignment) (out : List ParseStep) → after (assignment_onto a out) ≡ push_rules (means.assignment names a) (after out)
   assignment a out = one (expr_onto a.value out) (ParseStep.assign a.target) _ refl (λ s. refl) (in_expr a.value out)
 
-  assignments : (more : List Assignment) (out : List ParseStep) (r : Regex) (s : Stack) → after out ≡ push_rules r s → after (assignments_onto more out) ≡ push_rules (fold Regex.cat r (map (means.assignment names) more)) s
+  assignments : (more : List Assignment) (out : List ParseStep) (r : Regex) (s : Stack) → after out ≡ push_rules r s
+      → after (assignments_onto more out) ≡ push_rules (fold Regex.cat r (map (means.assignment names) more)) s
   assignments [] out r s is = is
   assignments (a ∷ more) out r s is =
       assignments more (assignment_onto a out ++ ParseStep.join ∷ []) (Regex.cat r (means.assignment names a)) s
@@ -102,12 +110,14 @@ module _ (names : Names) where
     in_sum : (s : Sum) (out : List ParseStep) → after (sum_onto s out) ≡ push_rules (sum_rules names s) (after out)
     in_sum (g.branch c) out = in_concat c out
     in_sum (g.either s c) out =
-        one (concat_onto c (sum_onto s out)) ParseStep.either _ refl (λ s. refl) (in_concat c (sum_onto s out) ∙ ap (push_rules (concat_rules names c)) (in_sum s out))
+        one (concat_onto c (sum_onto s out)) ParseStep.either _ refl (λ s. refl)
+        (in_concat c (sum_onto s out) ∙ ap (push_rules (concat_rules names c)) (in_sum s out))
 
     in_concat : (c : Concat) (out : List ParseStep) → after (concat_onto c out) ≡ push_rules (concat_rules names c) (after out)
     in_concat (g.single e) out = in_element e out
     in_concat (g.followed c e) out =
-        one (element_onto e (concat_onto c out)) ParseStep.join _ refl (λ s. refl) (in_element e (concat_onto c out) ∙ ap (push_rules (element_rules names e)) (in_concat c out))
+        one (element_onto e (concat_onto c out)) ParseStep.join _ refl (λ s. refl)
+        (in_element e (concat_onto c out) ∙ ap (push_rules (element_rules names e)) (in_concat c out))
 
     in_element : (e : Element) (out : List ParseStep) → after (element_onto e out) ≡ push_rules (element_rules names e) (after out)
     in_element (g.once b) out = in_base b out
@@ -119,7 +129,8 @@ module _ (names : Names) where
     in_base (g.off w) out = one out (ParseStep.off w) _ refl (λ s. refl) refl
     in_base (g.assign a more) out = assignments more (assignment_onto a out) (means.assignment names a) (after out) (assignment a out)
     in_base (g.compare a t b) out =
-        one (expr_onto b (expr_onto a out)) (ParseStep.compare t) _ refl (λ s. refl) (in_expr b (expr_onto a out) ∙ ap (push_expression (expression names b)) (in_expr a out))
+        one (expr_onto b (expr_onto a out)) (ParseStep.compare t) _ refl (λ s. refl)
+        (in_expr b (expr_onto a out) ∙ ap (push_expression (expression names b)) (in_expr a out))
     in_base (g.switch w) out = one out (ParseStep.switch w) _ refl (λ s. refl) refl
     in_base g.keeper out = one out ParseStep.keeper _ refl (λ s. refl) refl
     in_base (g.some_word s) out = one (sum_onto s out) ParseStep.some_word _ refl (λ s. refl) (in_sum s out)

@@ -11,7 +11,7 @@ use Rattle.rbg_text.specs.Syntax.{Expr, Assignment, Sum, Concat, Element, Base}
 use Rattle.rbg_text.specs.Parse.{ParseStep}
 use Rattle.rbg_text.specs.Postfix.{expr_onto, term_onto, factor_onto, atom_onto, among_onto, assignment_onto, assignments_onto, sum_onto, concat_onto, element_onto, base_onto}
 use Rattle.rbg_read.specs.Causes.{max_size, size, term_size, factor_size, atom_size, is_large, is_large_term, is_large_factor, is_large_atom, actions_in, actions_in_concat, actions_in_element, actions_in_base, expressions_of}
-use Rattle.rbg_read.specs.aid.Sizes.{next_sizes, has_large_size}
+use Rattle.rbg_read.specs.lemmas.Sizes.{next_sizes, has_large_size}
 
 pub fold_push : {X Y : Type 0} (f : Y → X → Y) (a : Y) (xs : List X) (x : X) → fold f a (xs ++ x ∷ []) ≡ f (fold f a xs) x
 fold_push f a [] x = refl
@@ -52,13 +52,15 @@ module _ (values : List Text) (bounds : List ℕ) where
   added false false m n (Some s) = refl
   added a b m n None = refl
 
-  subtracted : (a b : Bool) (m n : ℕ) (o : Option (List ℕ)) → next (grown b n (grown a m o)) ParseStep.subtract ≡ grown ((a || b) || nat_lt max_size (m + n)) (m + n) o
+  subtracted : (a b : Bool) (m n : ℕ) (o : Option (List ℕ)) → next (grown b n (grown a m o)) ParseStep.subtract ≡ grown
+      ((a || b) || nat_lt max_size (m + n)) (m + n) o
   subtracted true b m n (Some s) = refl
   subtracted false true m n (Some s) = refl
   subtracted false false m n (Some s) = refl
   subtracted a b m n None = refl
 
-  multiplied : (a b : Bool) (m n : ℕ) (o : Option (List ℕ)) → next (grown b n (grown a m o)) ParseStep.multiply ≡ grown ((a || b) || nat_lt max_size (m * n)) (m * n) o
+  multiplied : (a b : Bool) (m n : ℕ) (o : Option (List ℕ)) → next (grown b n (grown a m o)) ParseStep.multiply ≡ grown
+      ((a || b) || nat_lt max_size (m * n)) (m * n) o
   multiplied true b m n (Some s) = refl
   multiplied false true m n (Some s) = refl
   multiplied false false m n (Some s) = refl
@@ -87,21 +89,25 @@ module _ (values : List Text) (bounds : List ℕ) where
       in_expr (g.sum_of t) out = in_term t out
       in_expr (g.plus e t) out =
           push (term_onto t (expr_onto e out)) ParseStep.add
-          ∙ ap (λ o. next o ParseStep.add) (in_term t (expr_onto e out) ∙ ap (grown (is_large_term values bounds t) (term_size values bounds t)) (in_expr e out))
+          ∙ ap (λ o. next o ParseStep.add)
+          (in_term t (expr_onto e out) ∙ ap (grown (is_large_term values bounds t) (term_size values bounds t)) (in_expr e out))
           ∙ added (is_large values bounds e) (is_large_term values bounds t) (size values bounds e) (term_size values bounds t) (run out)
       in_expr (g.minus e t) out =
           push (term_onto t (expr_onto e out)) ParseStep.subtract
-          ∙ ap (λ o. next o ParseStep.subtract) (in_term t (expr_onto e out) ∙ ap (grown (is_large_term values bounds t) (term_size values bounds t)) (in_expr e out))
+          ∙ ap (λ o. next o ParseStep.subtract)
+          (in_term t (expr_onto e out) ∙ ap (grown (is_large_term values bounds t) (term_size values bounds t)) (in_expr e out))
           ∙ subtracted (is_large values bounds e) (is_large_term values bounds t) (size values bounds e) (term_size values bounds t) (run out)
 
       in_term : (t : g.Term) (out : List ParseStep) → run (term_onto t out) ≡ grown (is_large_term values bounds t) (term_size values bounds t) (run out)
       in_term (g.product_of f) out = in_factor f out
       in_term (g.times t f) out =
           push (factor_onto f (term_onto t out)) ParseStep.multiply
-          ∙ ap (λ o. next o ParseStep.multiply) (in_factor f (term_onto t out) ∙ ap (grown (is_large_factor values bounds f) (factor_size values bounds f)) (in_term t out))
+          ∙ ap (λ o. next o ParseStep.multiply)
+          (in_factor f (term_onto t out) ∙ ap (grown (is_large_factor values bounds f) (factor_size values bounds f)) (in_term t out))
           ∙ multiplied (is_large_term values bounds t) (is_large_factor values bounds f) (term_size values bounds t) (factor_size values bounds f) (run out)
 
-      in_factor : (f : g.Factor) (out : List ParseStep) → run (factor_onto f out) ≡ grown (is_large_factor values bounds f) (factor_size values bounds f) (run out)
+      in_factor : (f : g.Factor) (out : List ParseStep) → run (factor_onto f out) ≡ grown (is_large_factor values bounds f)
+          (factor_size values bounds f) (run out)
       in_factor (g.positive a) out = in_atom a out
       in_factor (g.negative a) out = push (atom_onto a out) ParseStep.negate ∙ stays (run (atom_onto a out)) ∙ in_atom a out
 
@@ -111,7 +117,8 @@ module _ (values : List Text) (bounds : List ℕ) where
       in_atom (g.parenthesized e) out = in_expr e out
 
     -- a step that leaves the sizes as they are
-    past : (xs : List ParseStep) (x : ParseStep) (o : Option (List ℕ)) → next (run xs) x ≡ option_and_then (λ s. Some s) (run xs) → run xs ≡ o → run (xs ++ x ∷ []) ≡ o
+    past : (xs : List ParseStep) (x : ParseStep) (o : Option (List ℕ)) → next (run xs) x ≡ option_and_then (λ s. Some s) (run xs)
+        → run xs ≡ o → run (xs ++ x ∷ []) ≡ o
     past xs x o same is = push xs x ∙ same ∙ stays (run xs) ∙ is
 
     amongs : (ws : List Text) (out : List ParseStep) → run (among_onto ws out) ≡ run out
@@ -135,10 +142,12 @@ module _ (values : List Text) (bounds : List ℕ) where
         ∙ stopped_twice (is_large values bounds a.value) (some_large (map (λ a. a.value) more)) (run out)
 
     -- one part after another
-    two : (bs cs : List Base) (o : Option (List ℕ)) → stopped (some_large (flat_map expressions_of cs)) (stopped (some_large (flat_map expressions_of bs)) o) ≡ stopped (some_large (flat_map expressions_of (bs ++ cs))) o
+    two : (bs cs : List Base) (o : Option (List ℕ)) → stopped (some_large (flat_map expressions_of cs))
+        (stopped (some_large (flat_map expressions_of bs)) o) ≡ stopped (some_large (flat_map expressions_of (bs ++ cs))) o
     two bs cs o =
         stopped_twice (some_large (flat_map expressions_of bs)) (some_large (flat_map expressions_of cs)) o
-        ∙ ap (λ b. stopped b o) (sym (ap some_large (flat_map-append expressions_of bs cs) ∙ list_any-append (is_large values bounds) (flat_map expressions_of bs) (flat_map expressions_of cs)))
+        ∙ ap (λ b. stopped b o) (sym (ap some_large (flat_map-append expressions_of bs cs)
+        ∙ list_any-append (is_large values bounds) (flat_map expressions_of bs) (flat_map expressions_of cs)))
 
     -- an action without an expression
     plain : (out : List ParseStep) (x : ParseStep) → next (run out) x ≡ option_and_then (λ s. Some s) (run out) → run (out ++ x ∷ []) ≡ stopped false (run out)
@@ -149,15 +158,18 @@ module _ (values : List Text) (bounds : List ℕ) where
       in_sum (g.branch c) out = in_concat c out
       in_sum (g.either s c) out =
           past (concat_onto c (sum_onto s out)) ParseStep.either _ refl
-          (in_concat c (sum_onto s out) ∙ ap (stopped (some_large (flat_map expressions_of (actions_in_concat c)))) (in_sum s out) ∙ two (actions_in s) (actions_in_concat c) (run out))
+          (in_concat c (sum_onto s out) ∙ ap (stopped (some_large (flat_map expressions_of (actions_in_concat c)))) (in_sum s out)
+          ∙ two (actions_in s) (actions_in_concat c) (run out))
 
       in_concat : (c : Concat) (out : List ParseStep) → run (concat_onto c out) ≡ stopped (some_large (flat_map expressions_of (actions_in_concat c))) (run out)
       in_concat (g.single e) out = in_element e out
       in_concat (g.followed c e) out =
           past (element_onto e (concat_onto c out)) ParseStep.join _ refl
-          (in_element e (concat_onto c out) ∙ ap (stopped (some_large (flat_map expressions_of (actions_in_element e)))) (in_concat c out) ∙ two (actions_in_concat c) (actions_in_element e) (run out))
+          (in_element e (concat_onto c out) ∙ ap (stopped (some_large (flat_map expressions_of (actions_in_element e)))) (in_concat c out)
+          ∙ two (actions_in_concat c) (actions_in_element e) (run out))
 
-      in_element : (e : Element) (out : List ParseStep) → run (element_onto e out) ≡ stopped (some_large (flat_map expressions_of (actions_in_element e))) (run out)
+      in_element : (e : Element) (out : List ParseStep) → run (element_onto e out) ≡ stopped
+          (some_large (flat_map expressions_of (actions_in_element e))) (run out)
       in_element (g.once b) out = in_base b out
       in_element (g.star b) out = past (base_onto b out) ParseStep.star _ refl (in_base b out)
 

@@ -9,7 +9,7 @@ use Rattle.rbg_text.specs.Syntax.{Expr, Assignment, Sum, Concat, Element, Base}
 use Rattle.rbg_text.specs.Parse.{ParseStep}
 use Rattle.rbg_text.specs.Postfix.{expr_onto, term_onto, factor_onto, atom_onto, among_onto, assignment_onto, assignments_onto, sum_onto, concat_onto, element_onto, base_onto}
 use Rattle.rbg_read.specs.Causes.{actions_in, actions_in_concat, actions_in_element, actions_in_base, is_switch, has_switch_inside}
-use Rattle.rbg_read.specs.aid.Switches.{next_flags, has_inner_switch}
+use Rattle.rbg_read.specs.lemmas.Switches.{next_flags, has_inner_switch}
 use Rattle.rbg_read.proofs.StepSizes.{fold_push}
 
 abbrev Flags : Type 0
@@ -60,7 +60,8 @@ module _ (start : Flags) where
   push : (xs : List ParseStep) (x : ParseStep) → run (xs ++ x ∷ []) ≡ next_flags (run xs) x
   push xs x = fold_push next_flags start xs x
 
-  past : (xs : List ParseStep) (x : ParseStep) (o : Flags) → next_flags (run xs) x ≡ option_and_then (λ s. Some s) (run xs) → run xs ≡ o → run (xs ++ x ∷ []) ≡ o
+  past : (xs : List ParseStep) (x : ParseStep) (o : Flags) → next_flags (run xs) x ≡ option_and_then (λ s. Some s) (run xs) → run xs ≡ o
+      → run (xs ++ x ∷ []) ≡ o
   past xs x o same is = push xs x ∙ same ∙ stays (run xs) ∙ is
 
   mutual
@@ -89,7 +90,8 @@ module _ (start : Flags) where
   assignment : (a : Assignment) (out : List ParseStep) → run (assignment_onto a out) ≡ marked false false (run out)
   assignment a out = push (expr_onto a.value out) (ParseStep.assign a.target) ∙ ap (λ o. next_flags o (ParseStep.assign a.target)) (in_expr a.value out)
 
-  assignments : (more : List Assignment) (out : List ParseStep) (o : Flags) → run out ≡ marked false false o → run (assignments_onto more out) ≡ marked false false o
+  assignments : (more : List Assignment) (out : List ParseStep) (o : Flags) → run out ≡ marked false false o
+      → run (assignments_onto more out) ≡ marked false false o
   assignments [] out o is = is
   assignments (a ∷ more) out o is =
       assignments more (assignment_onto a out ++ ParseStep.join ∷ []) o
@@ -105,14 +107,16 @@ module _ (start : Flags) where
 
   -- the parts of two lists
   both : (bs cs : List Base) (o : Flags) → marked (bad bs || bad cs) (some_switch bs || some_switch cs) o ≡ marked (bad (bs ++ cs)) (some_switch (bs ++ cs)) o
-  both bs cs o = ap (λ f. marked f (some_switch bs || some_switch cs) o) (sym (list_any-append has_switch_inside bs cs)) ∙ ap (λ b. marked (bad (bs ++ cs)) b o) (sym (list_any-append is_switch bs cs))
+  both bs cs o = ap (λ f. marked f (some_switch bs || some_switch cs) o) (sym (list_any-append has_switch_inside bs cs))
+      ∙ ap (λ b. marked (bad (bs ++ cs)) b o) (sym (list_any-append is_switch bs cs))
 
   mutual
     pub in_sum : (s : Sum) (out : List ParseStep) → run (sum_onto s out) ≡ marked (bad (actions_in s)) (some_switch (actions_in s)) (run out)
     in_sum (g.branch c) out = in_concat c out
     in_sum (g.either s c) out =
         push (concat_onto c (sum_onto s out)) ParseStep.either
-        ∙ ap (λ o. next_flags o ParseStep.either) (in_concat c (sum_onto s out) ∙ ap (marked (bad (actions_in_concat c)) (some_switch (actions_in_concat c))) (in_sum s out))
+        ∙ ap (λ o. next_flags o ParseStep.either)
+        (in_concat c (sum_onto s out) ∙ ap (marked (bad (actions_in_concat c)) (some_switch (actions_in_concat c))) (in_sum s out))
         ∙ chosen (bad (actions_in s)) (bad (actions_in_concat c)) (some_switch (actions_in s)) (some_switch (actions_in_concat c)) (run out)
         ∙ both (actions_in s) (actions_in_concat c) (run out)
 
@@ -120,11 +124,13 @@ module _ (start : Flags) where
     in_concat (g.single e) out = in_element e out
     in_concat (g.followed c e) out =
         push (element_onto e (concat_onto c out)) ParseStep.join
-        ∙ ap (λ o. next_flags o ParseStep.join) (in_element e (concat_onto c out) ∙ ap (marked (bad (actions_in_element e)) (some_switch (actions_in_element e))) (in_concat c out))
+        ∙ ap (λ o. next_flags o ParseStep.join)
+        (in_element e (concat_onto c out) ∙ ap (marked (bad (actions_in_element e)) (some_switch (actions_in_element e))) (in_concat c out))
         ∙ joined (bad (actions_in_concat c)) (bad (actions_in_element e)) (some_switch (actions_in_concat c)) (some_switch (actions_in_element e)) (run out)
         ∙ both (actions_in_concat c) (actions_in_element e) (run out)
 
-    in_element : (e : Element) (out : List ParseStep) → run (element_onto e out) ≡ marked (bad (actions_in_element e)) (some_switch (actions_in_element e)) (run out)
+    in_element : (e : Element) (out : List ParseStep) → run (element_onto e out) ≡ marked (bad (actions_in_element e))
+        (some_switch (actions_in_element e)) (run out)
     in_element (g.once b) out = in_base b out
     in_element (g.star b) out = past (base_onto b out) ParseStep.star _ refl (in_base b out)
 

@@ -12,8 +12,8 @@ use Rattle.rbg_text.specs.Postfix.{expr_onto, term_onto, factor_onto, atom_onto,
 use Rattle.rbg_game.specs.declared.rules.Comparison.{Comparison}
 use Rattle.rbg_read.specs.Means.{Names, values_of}
 use Rattle.rbg_read.specs.Causes.{names_in, names_in_term, names_in_factor, names_in_atom, literals_in, literals_in_term, literals_in_factor, literals_in_atom, actions_in, actions_in_concat, actions_in_element, actions_in_base, expressions_of, is_unknown, uses_unknown_value, action_uses_unknown, is_too_large, action_count}
-use Rattle.rbg_read.specs.aid.Flat.{step_uses_unknown, is_large_number, is_action}
-use Rattle.rbg_read.specs.aid.Parts.{Known}
+use Rattle.rbg_read.specs.lemmas.Flat.{step_uses_unknown, is_large_number, is_action}
+use Rattle.rbg_read.specs.lemmas.Parts.{Known}
 use Rattle.rbg_read.proofs.Lists.{any_map}
 
 -- ---- tests
@@ -68,13 +68,16 @@ module _ (p : ParseStep → Bool) (q : Base → Bool) (r : Expr → Bool) (tests
   amongs : (ws : List Text) (out : List ParseStep) → list_any p (among_onto ws out) ≡ (list_any p out || list_any (λ w. p (ParseStep.among w)) ws)
   amongs [] out = sym (or_false (list_any p out))
   amongs (w ∷ ws) out =
-      two (list_any p out) (p (ParseStep.among w)) (list_any (λ w. p (ParseStep.among w)) ws) _ _ _ (amongs ws (out ++ ParseStep.among w ∷ [])) (any_push p out (ParseStep.among w)) refl
+      two (list_any p out) (p (ParseStep.among w)) (list_any (λ w. p (ParseStep.among w)) ws) _ _ _
+      (amongs ws (out ++ ParseStep.among w ∷ [])) (any_push p out (ParseStep.among w)) refl
 
   assignment : (a : Assignment) (out : List ParseStep) → list_any p (assignment_onto a out) ≡ (list_any p out || (p (ParseStep.assign a.target) || r a.value))
   assignment a out =
-      two (list_any p out) (r a.value) (p (ParseStep.assign a.target)) _ _ _ (any_push p (expr_onto a.value out) (ParseStep.assign a.target)) (tests.expressions a.value out) (or_comm (p (ParseStep.assign a.target)) (r a.value))
+      two (list_any p out) (r a.value) (p (ParseStep.assign a.target)) _ _ _
+      (any_push p (expr_onto a.value out) (ParseStep.assign a.target)) (tests.expressions a.value out) (or_comm (p (ParseStep.assign a.target)) (r a.value))
 
-  assignments : (more : List Assignment) (out : List ParseStep) → list_any p (assignments_onto more out) ≡ (list_any p out || list_any (λ a. p (ParseStep.assign a.target) || r a.value) more)
+  assignments : (more : List Assignment) (out : List ParseStep)
+      → list_any p (assignments_onto more out) ≡ (list_any p out || list_any (λ a. p (ParseStep.assign a.target) || r a.value) more)
   assignments [] out = sym (or_false (list_any p out))
   assignments (a ∷ more) out =
       two (list_any p out) (p (ParseStep.assign a.target) || r a.value) (list_any (λ a. p (ParseStep.assign a.target) || r a.value) more) _ _ _
@@ -91,13 +94,15 @@ module _ (p : ParseStep → Bool) (q : Base → Bool) (r : Expr → Bool) (tests
     any_in (g.branch c) out = any_in_concat c out
     any_in (g.either s c) out =
         any_past p (concat_onto c (sum_onto s out)) ParseStep.either _ tests.either
-        (two (list_any p out) (list_any q (actions_in s)) (list_any q (actions_in_concat c)) _ _ _ (any_in_concat c (sum_onto s out)) (any_in s out) (list_any-append q (actions_in s) (actions_in_concat c)))
+        (two (list_any p out) (list_any q (actions_in s)) (list_any q (actions_in_concat c)) _ _ _ (any_in_concat c (sum_onto s out))
+        (any_in s out) (list_any-append q (actions_in s) (actions_in_concat c)))
 
     any_in_concat : (c : Concat) (out : List ParseStep) → list_any p (concat_onto c out) ≡ (list_any p out || list_any q (actions_in_concat c))
     any_in_concat (g.single e) out = any_in_element e out
     any_in_concat (g.followed c e) out =
         any_past p (element_onto e (concat_onto c out)) ParseStep.join _ tests.join
-        (two (list_any p out) (list_any q (actions_in_concat c)) (list_any q (actions_in_element e)) _ _ _ (any_in_element e (concat_onto c out)) (any_in_concat c out) (list_any-append q (actions_in_concat c) (actions_in_element e)))
+        (two (list_any p out) (list_any q (actions_in_concat c)) (list_any q (actions_in_element e)) _ _ _
+        (any_in_element e (concat_onto c out)) (any_in_concat c out) (list_any-append q (actions_in_concat c) (actions_in_element e)))
 
     any_in_element : (e : Element) (out : List ParseStep) → list_any p (element_onto e out) ≡ (list_any p out || list_any q (actions_in_element e))
     any_in_element (g.once b) out = any_in_base b out
@@ -112,7 +117,8 @@ module _ (p : ParseStep → Bool) (q : Base → Bool) (r : Expr → Bool) (tests
     any_in_base (g.off w) out = alone (g.off w) _ (list_any p out) _ (any_push p out (ParseStep.off w)) (tests.offs w)
     any_in_base (g.assign a more) out =
         alone (g.assign a more) _ (list_any p out) _
-        (two (list_any p out) (p (ParseStep.assign a.target) || r a.value) (list_any (λ a. p (ParseStep.assign a.target) || r a.value) more) _ _ _ (assignments more (assignment_onto a out)) (assignment a out) refl)
+        (two (list_any p out) (p (ParseStep.assign a.target) || r a.value)
+        (list_any (λ a. p (ParseStep.assign a.target) || r a.value) more) _ _ _ (assignments more (assignment_onto a out)) (assignment a out) refl)
         (tests.assigns a more)
     any_in_base (g.compare a t b) out =
         alone (g.compare a t b) _ (list_any p out) _
@@ -147,16 +153,19 @@ module _ (names : Names) where
     in_expr (g.sum_of t) out = in_term t out
     in_expr (g.plus e t) out =
         any_past p (term_onto t (expr_onto e out)) ParseStep.add _ refl
-        (two (list_any p out) (list_any unknown (names_in e)) (list_any unknown (names_in_term t)) _ _ _ (in_term t (expr_onto e out)) (in_expr e out) (list_any-append unknown (names_in e) (names_in_term t)))
+        (two (list_any p out) (list_any unknown (names_in e)) (list_any unknown (names_in_term t)) _ _ _ (in_term t (expr_onto e out))
+        (in_expr e out) (list_any-append unknown (names_in e) (names_in_term t)))
     in_expr (g.minus e t) out =
         any_past p (term_onto t (expr_onto e out)) ParseStep.subtract _ refl
-        (two (list_any p out) (list_any unknown (names_in e)) (list_any unknown (names_in_term t)) _ _ _ (in_term t (expr_onto e out)) (in_expr e out) (list_any-append unknown (names_in e) (names_in_term t)))
+        (two (list_any p out) (list_any unknown (names_in e)) (list_any unknown (names_in_term t)) _ _ _ (in_term t (expr_onto e out))
+        (in_expr e out) (list_any-append unknown (names_in e) (names_in_term t)))
 
     in_term : (t : g.Term) (out : List ParseStep) → list_any p (term_onto t out) ≡ (list_any p out || list_any unknown (names_in_term t))
     in_term (g.product_of f) out = in_factor f out
     in_term (g.times t f) out =
         any_past p (factor_onto f (term_onto t out)) ParseStep.multiply _ refl
-        (two (list_any p out) (list_any unknown (names_in_term t)) (list_any unknown (names_in_factor f)) _ _ _ (in_factor f (term_onto t out)) (in_term t out) (list_any-append unknown (names_in_term t) (names_in_factor f)))
+        (two (list_any p out) (list_any unknown (names_in_term t)) (list_any unknown (names_in_factor f)) _ _ _
+        (in_factor f (term_onto t out)) (in_term t out) (list_any-append unknown (names_in_term t) (names_in_factor f)))
 
     in_factor : (f : g.Factor) (out : List ParseStep) → list_any p (factor_onto f out) ≡ (list_any p out || list_any unknown (names_in_factor f))
     in_factor (g.positive a) out = in_atom a out
@@ -201,26 +210,33 @@ large_in : Base → Bool
 large_in b = list_any (λ e. list_any is_too_large (literals_in e)) (expressions_of b)
 
 mutual
-  num_expr : (e : Expr) (out : List ParseStep) → list_any is_large_number (expr_onto e out) ≡ (list_any is_large_number out || list_any is_too_large (literals_in e))
+  num_expr : (e : Expr) (out : List ParseStep) → list_any is_large_number (expr_onto e out) ≡
+      (list_any is_large_number out || list_any is_too_large (literals_in e))
   num_expr (g.sum_of t) out = num_term t out
   num_expr (g.plus e t) out =
       any_past is_large_number (term_onto t (expr_onto e out)) ParseStep.add _ refl
-      (two (list_any is_large_number out) (list_any is_too_large (literals_in e)) (list_any is_too_large (literals_in_term t)) _ _ _ (num_term t (expr_onto e out)) (num_expr e out) (list_any-append is_too_large (literals_in e) (literals_in_term t)))
+      (two (list_any is_large_number out) (list_any is_too_large (literals_in e)) (list_any is_too_large (literals_in_term t)) _ _ _
+      (num_term t (expr_onto e out)) (num_expr e out) (list_any-append is_too_large (literals_in e) (literals_in_term t)))
   num_expr (g.minus e t) out =
       any_past is_large_number (term_onto t (expr_onto e out)) ParseStep.subtract _ refl
-      (two (list_any is_large_number out) (list_any is_too_large (literals_in e)) (list_any is_too_large (literals_in_term t)) _ _ _ (num_term t (expr_onto e out)) (num_expr e out) (list_any-append is_too_large (literals_in e) (literals_in_term t)))
+      (two (list_any is_large_number out) (list_any is_too_large (literals_in e)) (list_any is_too_large (literals_in_term t)) _ _ _
+      (num_term t (expr_onto e out)) (num_expr e out) (list_any-append is_too_large (literals_in e) (literals_in_term t)))
 
-  num_term : (t : g.Term) (out : List ParseStep) → list_any is_large_number (term_onto t out) ≡ (list_any is_large_number out || list_any is_too_large (literals_in_term t))
+  num_term : (t : g.Term) (out : List ParseStep) → list_any is_large_number (term_onto t out) ≡
+      (list_any is_large_number out || list_any is_too_large (literals_in_term t))
   num_term (g.product_of f) out = num_factor f out
   num_term (g.times t f) out =
       any_past is_large_number (factor_onto f (term_onto t out)) ParseStep.multiply _ refl
-      (two (list_any is_large_number out) (list_any is_too_large (literals_in_term t)) (list_any is_too_large (literals_in_factor f)) _ _ _ (num_factor f (term_onto t out)) (num_term t out) (list_any-append is_too_large (literals_in_term t) (literals_in_factor f)))
+      (two (list_any is_large_number out) (list_any is_too_large (literals_in_term t)) (list_any is_too_large (literals_in_factor f)) _ _ _
+      (num_factor f (term_onto t out)) (num_term t out) (list_any-append is_too_large (literals_in_term t) (literals_in_factor f)))
 
-  num_factor : (f : g.Factor) (out : List ParseStep) → list_any is_large_number (factor_onto f out) ≡ (list_any is_large_number out || list_any is_too_large (literals_in_factor f))
+  num_factor : (f : g.Factor) (out : List ParseStep) → list_any is_large_number (factor_onto f out) ≡
+      (list_any is_large_number out || list_any is_too_large (literals_in_factor f))
   num_factor (g.positive a) out = num_atom a out
   num_factor (g.negative a) out = any_past is_large_number (atom_onto a out) ParseStep.negate _ refl (num_atom a out)
 
-  num_atom : (a : g.Atom) (out : List ParseStep) → list_any is_large_number (atom_onto a out) ≡ (list_any is_large_number out || list_any is_too_large (literals_in_atom a))
+  num_atom : (a : g.Atom) (out : List ParseStep) → list_any is_large_number (atom_onto a out) ≡
+      (list_any is_large_number out || list_any is_too_large (literals_in_atom a))
   num_atom (g.literal n) out = any_push is_large_number out (ParseStep.number n) ∙ ap (λ c. list_any is_large_number out || c) (sym (or_false (is_too_large n)))
   num_atom (g.Atom.variable v) out = any_past is_large_number out (ParseStep.variable v) _ refl (sym (or_false (list_any is_large_number out)))
   num_atom (g.parenthesized e) out = num_expr e out
@@ -229,7 +245,8 @@ none_large : (ws : List Text) → false ≡ list_any (λ w. is_large_number (Par
 none_large [] = refl
 none_large (w ∷ ws) = none_large ws
 
-large_assigned : (more : List Assignment) → list_any (λ e. list_any is_too_large (literals_in e)) (map (λ a. a.value) more) ≡ list_any (λ a. is_large_number (ParseStep.assign a.target) || list_any is_too_large (literals_in a.value)) more
+large_assigned : (more : List Assignment) → list_any (λ e. list_any is_too_large (literals_in e)) (map (λ a. a.value) more) ≡ list_any
+    (λ a. is_large_number (ParseStep.assign a.target) || list_any is_too_large (literals_in a.value)) more
 large_assigned more = any_map (λ e. list_any is_too_large (literals_in e)) (λ a. a.value) more
 
 numbers_tested : Tests is_large_number large_in large_values
@@ -259,7 +276,8 @@ any_flat p f [] = refl
 any_flat p f (x ∷ xs) = list_any-append p (f x) (flat_map f xs) ∙ ap (λ b. list_any p (f x) || b) (any_flat p f xs)
 
 -- a large number in the steps is one in the tree
-pub large_numbers : (s : Sum) → list_any is_large_number (sum_onto s []) ≡ list_any (λ e. list_any is_too_large (literals_in e)) (flat_map expressions_of (actions_in s))
+pub large_numbers : (s : Sum) → list_any is_large_number (sum_onto s []) ≡ list_any (λ e. list_any is_too_large (literals_in e))
+    (flat_map expressions_of (actions_in s))
 unfolding large_in large_values
 large_numbers s =
     any_in is_large_number large_in large_values numbers_tested s []
@@ -278,7 +296,8 @@ mutual
 
   count_term : (t : g.Term) (out : List ParseStep) → count_by is_action (term_onto t out) ≡ count_by is_action out
   count_term (g.product_of f) out = count_factor f out
-  count_term (g.times t f) out = omega (arith, count_push (factor_onto f (term_onto t out)) ParseStep.multiply, count_factor f (term_onto t out), count_term t out)
+  count_term (g.times t f) out = omega
+      (arith, count_push (factor_onto f (term_onto t out)) ParseStep.multiply, count_factor f (term_onto t out), count_term t out)
 
   count_factor : (f : g.Factor) (out : List ParseStep) → count_by is_action (factor_onto f out) ≡ count_by is_action out
   count_factor (g.positive a) out = count_atom a out
@@ -299,20 +318,39 @@ count_assignment a out = omega (arith, count_push (expr_onto a.value out) (Parse
 count_assignments : (more : List Assignment) (out : List ParseStep) → count_by is_action (assignments_onto more out) ≡ count_by is_action out + length more
 count_assignments [] out = omega arith
 count_assignments (a ∷ more) out =
-    omega (arith, count_assignments more (assignment_onto a out ++ ParseStep.join ∷ []), count_push (assignment_onto a out) ParseStep.join, count_assignment a out)
+    omega (
+      arith,
+      count_assignments more (assignment_onto a out ++ ParseStep.join ∷ []),
+      count_push (assignment_onto a out) ParseStep.join,
+      count_assignment a out,
+    )
 
 mutual
   pub count_in : (s : Sum) (out : List ParseStep) → count_by is_action (sum_onto s out) ≡ count_by is_action out + sum_by action_count (actions_in s)
   count_in (g.branch c) out = count_in_concat c out
   count_in (g.either s c) out =
-      omega (arith, count_push (concat_onto c (sum_onto s out)) ParseStep.either, count_in_concat c (sum_onto s out), count_in s out, sum_by-append action_count (actions_in s) (actions_in_concat c))
+      omega (
+        arith,
+        count_push (concat_onto c (sum_onto s out)) ParseStep.either,
+        count_in_concat c (sum_onto s out),
+        count_in s out,
+        sum_by-append action_count (actions_in s) (actions_in_concat c),
+      )
 
-  count_in_concat : (c : Concat) (out : List ParseStep) → count_by is_action (concat_onto c out) ≡ count_by is_action out + sum_by action_count (actions_in_concat c)
+  count_in_concat : (c : Concat) (out : List ParseStep) → count_by is_action
+      (concat_onto c out) ≡ count_by is_action out + sum_by action_count (actions_in_concat c)
   count_in_concat (g.single e) out = count_in_element e out
   count_in_concat (g.followed c e) out =
-      omega (arith, count_push (element_onto e (concat_onto c out)) ParseStep.join, count_in_element e (concat_onto c out), count_in_concat c out, sum_by-append action_count (actions_in_concat c) (actions_in_element e))
+      omega (
+        arith,
+        count_push (element_onto e (concat_onto c out)) ParseStep.join,
+        count_in_element e (concat_onto c out),
+        count_in_concat c out,
+        sum_by-append action_count (actions_in_concat c) (actions_in_element e),
+      )
 
-  count_in_element : (e : Element) (out : List ParseStep) → count_by is_action (element_onto e out) ≡ count_by is_action out + sum_by action_count (actions_in_element e)
+  count_in_element : (e : Element) (out : List ParseStep) → count_by is_action
+      (element_onto e out) ≡ count_by is_action out + sum_by action_count (actions_in_element e)
   count_in_element (g.once b) out = count_in_base b out
   count_in_element (g.star b) out = omega (arith, count_push (base_onto b out) ParseStep.star, count_in_base b out)
 
@@ -325,6 +363,8 @@ mutual
       omega (arith, count_push (expr_onto b (expr_onto a out)) (ParseStep.compare t), count_expr b (expr_onto a out), count_expr a out)
   count_in_base (g.switch w) out = omega (arith, count_push out (ParseStep.switch w))
   count_in_base g.keeper out = omega (arith, count_push out ParseStep.keeper)
-  count_in_base (g.some_word s) out = omega (arith, count_push (sum_onto s out) ParseStep.some_word, count_in s out, sum_by-cons action_count (g.some_word s) (actions_in s))
-  count_in_base (g.no_word s) out = omega (arith, count_push (sum_onto s out) ParseStep.no_word, count_in s out, sum_by-cons action_count (g.no_word s) (actions_in s))
+  count_in_base (g.some_word s) out = omega
+      (arith, count_push (sum_onto s out) ParseStep.some_word, count_in s out, sum_by-cons action_count (g.some_word s) (actions_in s))
+  count_in_base (g.no_word s) out = omega
+      (arith, count_push (sum_onto s out) ParseStep.no_word, count_in s out, sum_by-cons action_count (g.no_word s) (actions_in s))
   count_in_base (g.group s) out = count_in s out

@@ -2,8 +2,8 @@
 use Rattle.std.proofs.Common.{◌≡◌, ◌+◌, List, [], ◌++◌, map, ap, sym, ◌∙◌, append-nil}
 use Rattle.rbg_text.specs.Syntax.{Tokens, Section, text}
 use Rattle.rbg_read.specs.Written.{Cut, cut_at, spots_of}
-use Rattle.rbg_read.specs.aid.Walk.{Place, elsewhere, found_from}
-use Rattle.rbg_read.proofs.Walking.{all_found}
+use Rattle.rbg_read.specs.lemmas.Walk.{Place, elsewhere, found_from}
+use Rattle.rbg_read.proofs.Walks.{all_found}
 
 pub all_walked : (cuts : List Cut) (place : Place) (tokens : Tokens) (all : List Section) → cuts ++ found_from place [] ≡ found_from elsewhere tokens
     → tokens ≡ text all → cuts ≡ map cut_at (spots_of all)

@@ -13,11 +13,11 @@ use Rattle.rbg_text.specs.Parse.{ParseStep}
 use Rattle.rbg_text.specs.Postfix.{sum_onto}
 use Rattle.rbg_read.specs.Means.{Names, names_of, values_of, players_of, pieces_of, variables_of, vertices_of, rules_of, sum_rules, Means}
 use Rattle.rbg_read.specs.Causes.{actions_in, expressions_of, all_actions, all_expressions, is_players, is_pieces, is_variables, is_board, is_rules, has_wrong_sections, has_not_two_players, vertex_uses_unknown, has_repeated_name, is_large, is_too_large, literals_in, action_uses_unknown, has_switch_inside, action_count, bounds_of, first_cause}
-use Rattle.rbg_read.specs.aid.Parts.{Parts, Kinds, kinds_of, parts_of, collected, players_said, pieces_said, variables_said, board_said, rules_said, known_of}
-use Rattle.rbg_read.specs.aid.Flat.{flat_cause, step_uses_unknown, is_large_number, is_action, bounds}
-use Rattle.rbg_read.specs.aid.Build.{flat_game}
-use Rattle.rbg_read.specs.aid.Sizes.{has_large_size}
-use Rattle.rbg_read.specs.aid.Switches.{has_inner_switch}
+use Rattle.rbg_read.specs.lemmas.Parts.{Parts, Kinds, kinds_of, parts_of, collected, players_said, pieces_said, variables_said, board_said, rules_said, known_of}
+use Rattle.rbg_read.specs.lemmas.Flat.{flat_cause, step_uses_unknown, is_large_number, is_action, bounds}
+use Rattle.rbg_read.specs.lemmas.Build.{flat_game}
+use Rattle.rbg_read.specs.lemmas.Sizes.{has_large_size}
+use Rattle.rbg_read.specs.lemmas.Switches.{has_inner_switch}
 use Rattle.rbg_read.specs.declared.fault.GameFault.{GameFault}
 use Rattle.rbg_read.specs.declared.fault.GameFault.TheVariants as cause
 use Rattle.rbg_read.proofs.StepTests.{unknown_names, large_numbers, count_in}
@@ -73,7 +73,13 @@ module _ (p : Section → Bool) (X : Type 0) (said : Said → List X) (same : (s
   counted : (all : List Section) → count_by p all ≡ length (flat_map said (map said_of all))
   counted [] = refl
   counted (s ∷ all) =
-      omega (arith, sum_by-cons (λ x. cond (p x) 1 0) s all, counted all, same s, Rattle.std.proofs.lemmas.List.length-append (said (said_of s)) (flat_map said (map said_of all)))
+      omega (
+        arith,
+        sum_by-cons (λ x. cond (p x) 1 0) s all,
+        counted all,
+        same s,
+        Rattle.std.proofs.lemmas.List.length-append (said (said_of s)) (flat_map said (map said_of all)),
+      )
 
 one_players : (s : Section) → cond (is_players s) 1 0 ≡ length (players_said (said_of s))
 one_players (g.players first more) = refl
@@ -126,7 +132,8 @@ wrong_is all =
     λ i. not (eqb (a i) 1 && eqb (b i) 1 && nat_le (c i) 1 && eqb (d i) 1 && eqb (e i) 1)
 
 data Gathered (k : Kinds) : Type 0 where
-  fine : (p : Parts) → parts_of k ≡ Some p → wrong_kinds k ≡ false → k.players ≡ p.players ∷ [] → k.pieces ≡ p.pieces ∷ [] → flat_map (λ ds. ds) k.variables ≡ p.variables → k.boards ≡ p.vertices ∷ [] → k.rules ≡ p.steps ∷ [] → Gathered k
+  fine : (p : Parts) → parts_of k ≡ Some p → wrong_kinds k ≡ false → k.players ≡ p.players ∷ [] → k.pieces ≡ p.pieces ∷ []
+      → flat_map (λ ds. ds) k.variables ≡ p.variables → k.boards ≡ p.vertices ∷ [] → k.rules ≡ p.steps ∷ [] → Gathered k
   wrong : parts_of k ≡ None → wrong_kinds k ≡ true → Gathered k
 
 many : (n : ℕ) → eqb (suc (suc n)) 1 ≡ false
@@ -135,7 +142,8 @@ many n = ne_eqb (suc (suc n)) 1 (λ e. absurd (omega arith))
 more_than_one : (n : ℕ) → nat_le (suc (suc n)) 1 ≡ false
 more_than_one n = lt-leb (suc (suc n)) 1 (omega arith)
 
-gathered : (players : List (List Declaration)) (pieces : _) (variables : List (List Declaration)) (boards : List (List g.WrittenVertex)) (rules : List (List ParseStep)) → Gathered (record { players = players; pieces = pieces; variables = variables; boards = boards; rules = rules })
+gathered : (players : List (List Declaration)) (pieces : _) (variables : List (List Declaration)) (boards : List (List g.WrittenVertex))
+    (rules : List (List ParseStep)) → Gathered (record { players = players; pieces = pieces; variables = variables; boards = boards; rules = rules })
 gathered [] ws vs bs rs = wrong refl refl
 gathered (p ∷ q ∷ more) ws vs bs rs =
     wrong refl (ap (λ t. not (t && eqb (length ws) 1 && nat_le (length vs) 1 && eqb (length bs) 1 && eqb (length rs) 1)) (many (length more)))
@@ -240,7 +248,8 @@ module _ (all : List Section) (s : Sum) (one : flat_map rules_of all ≡ s ∷ [
 
   sizes : list_any (is_large (values_of names) (bounds_of all)) (all_expressions all) ≡ has_large_size (known_of parts).values (bounds parts) parts.steps
   sizes =
-      ap (λ bs. list_any (is_large (values_of names) (bounds_of all)) (flat_map expressions_of bs)) actions ∙ sym (large_sizes (values_of names) (bounds_of all) s)
+      ap (λ bs. list_any (is_large (values_of names) (bounds_of all)) (flat_map expressions_of bs)) actions
+      ∙ sym (large_sizes (values_of names) (bounds_of all) s)
 
   switches : list_any has_switch_inside (all_actions all) ≡ has_inner_switch parts.steps
   switches = ap (list_any has_switch_inside) actions ∙ sym (inner_switches s)

@@ -20,6 +20,6 @@ pub mod Codes
 pub mod Example
 pub mod Means
 pub mod ReadFaults
-pub mod Reading
+pub mod Reads
 pub mod TakeText
-pub mod aid
+pub mod lemmas

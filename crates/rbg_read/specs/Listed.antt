@@ -7,7 +7,7 @@ use Rattle.rbg_text.specs.Syntax.{Tokens, Section}
 use Rattle.rbg_text.specs.Syntax as grammar
 use Rattle.rbg_game.specs.Games.{Game}
 use Rattle.rbg_read.specs.Means.{Means}
-use Rattle.rbg_read.specs.Reading.{Parses}
+use Rattle.rbg_read.specs.Reads.{Parses}
 use Rattle.rbg_read.specs.Written.{Cut, cut_at, spots_of}
 use Rattle.rbg_read.specs.declared.numbered.lines.LineColumn.{LineColumn}
 

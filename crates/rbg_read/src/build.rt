@@ -7,10 +7,10 @@ ghost use Rattle.rbg_game.specs.Meaning as meaning;
 ghost use Rattle.rbg_game.specs.Meaning.{game_of, regex_of, variable_of, arrow_of};
 ghost use Rattle.rbg_game.specs.Depth.{rules_depth};
 ghost use Rattle.rbg_read.specs.Means.{declared};
-ghost use Rattle.rbg_read.specs.aid.Build.{flat_game, placed_vertex, placed_arrow};
-ghost use Rattle.rbg_read.specs.aid.Depths.{rules_depths};
-ghost use Rattle.rbg_read.specs.aid.Flat.{flat_cause, has_large_bound};
-ghost use Rattle.rbg_read.specs.aid.Parts.{known_of, known_view, parts_view, AreFew};
+ghost use Rattle.rbg_read.specs.lemmas.Build.{flat_game, placed_vertex, placed_arrow};
+ghost use Rattle.rbg_read.specs.lemmas.Depths.{rules_depths};
+ghost use Rattle.rbg_read.specs.lemmas.Flat.{flat_cause, has_large_bound};
+ghost use Rattle.rbg_read.specs.lemmas.Parts.{known_of, known_view, parts_view, AreFew};
 
 use crate::names::Names;
 use crate::numbers::number;

@@ -1,8 +1,8 @@
 //! The causes for which parts are no game, in their order.
 
 ghost use Rattle.std.specs.Prelude.{◌≡◌, ◌≢◌, MatchResult};
-ghost use Rattle.rbg_read.specs.aid.Flat as spec;
-ghost use Rattle.rbg_read.specs.aid.Parts.{known_of, known_view, parts_view};
+ghost use Rattle.rbg_read.specs.lemmas.Flat as spec;
+ghost use Rattle.rbg_read.specs.lemmas.Parts.{known_of, known_view, parts_view};
 
 use crate::fault::GameFault;
 use crate::limits::{bounds_of, has_large, is_past_a_limit};

@@ -5,7 +5,7 @@ ghost use Rattle.rbg_game.specs.Rules.{count};
 ghost use Rattle.rbg_game.specs.declared.limits.TheConstants.{MAX_ACTIONS};
 ghost use Rattle.rbg_text.specs.Token.{Text};
 ghost use Rattle.rbg_game.specs.Games.{Game};
-ghost use Rattle.rbg_read.specs.Reading.{Reads, Fault};
+ghost use Rattle.rbg_read.specs.Reads.{Reads, Fault};
 ghost use Rattle.rbg_read.specs.declared.fault.GameFault.{GameFault};
 ghost use Rattle.rbg_game.specs.Sound.{IsSoundGame};
 ghost use Rattle.rbg_game.specs.Names.{HasProperNames};

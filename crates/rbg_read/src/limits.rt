@@ -5,8 +5,8 @@ ghost use Rattle.std.specs.List.{list_any};
 ghost use Rattle.rbg_text.specs.View.{step_view};
 ghost use Rattle.rbg_text.specs.Said.{declaration_view};
 ghost use Rattle.rbg_read.specs.Means.{decimal};
-ghost use Rattle.rbg_read.specs.aid.Flat as spec;
-ghost use Rattle.rbg_read.specs.aid.Parts.{known_view, parts_view};
+ghost use Rattle.rbg_read.specs.lemmas.Flat as spec;
+ghost use Rattle.rbg_read.specs.lemmas.Parts.{known_view, parts_view};
 
 use crate::names::Names;
 use crate::numbers::{is_too_large, number};

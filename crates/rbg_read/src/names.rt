@@ -6,7 +6,7 @@ ghost use Rattle.std.specs.Str.{bytes_eq};
 ghost use Rattle.rbg_text.specs.Said.{vertex_view};
 ghost use Rattle.rbg_read.specs.Means.{index_of};
 ghost use Rattle.rbg_read.specs.Causes as causes;
-ghost use Rattle.rbg_read.specs.aid.Parts.{labels_in, known_of, known_view, parts_view, AreFew, with_label};
+ghost use Rattle.rbg_read.specs.lemmas.Parts.{labels_in, known_of, known_view, parts_view, AreFew, with_label};
 
 use crate::parts::Parts;
 use rbg_text::sections::{Arrow, Declaration, Vertex};

@@ -5,7 +5,7 @@ ghost use Rattle.rbg_game.specs.Expressions.{Expression, sum_all, product_all};
 ghost use Rattle.rbg_game.specs.Rules.{Regex, cat_all, alt_all};
 ghost use Rattle.rbg_game.specs.Meaning.{expression_of, regex_of, action_of};
 ghost use Rattle.rbg_game.specs.Depth.{deepest, expression_depth, rules_depth};
-ghost use Rattle.rbg_read.specs.aid.Depths.{IsFlatExpression, AreFlatRules, depths_of_expression, depths_of_rules, IsFlatAction};
+ghost use Rattle.rbg_read.specs.lemmas.Depths.{IsFlatExpression, AreFlatRules, depths_of_expression, depths_of_rules, IsFlatAction};
 
 use rbg_game::rules::{Action, Expr, Rules};
 use std::alloc::{AllocError, Global};

@@ -2,7 +2,7 @@
 
 ghost use Rattle.std.specs.Prelude.{◌≡◌, [], map, option_map, IfOk};
 ghost use Rattle.rbg_text.specs.Said.{section_view};
-ghost use Rattle.rbg_read.specs.aid.Parts.{collected, only, at_most_one, kinds_of, parts_of, parts_view, kinds_view, with_said};
+ghost use Rattle.rbg_read.specs.lemmas.Parts.{collected, only, at_most_one, kinds_of, parts_of, parts_view, kinds_view, with_said};
 
 use rbg_text::parser::Step;
 use rbg_text::sections::{Declaration, Section, Vertex};

@@ -5,7 +5,7 @@ ghost use Rattle.rbg_game.specs.Games.{Game as TextbookGame};
 ghost use Rattle.rbg_game.specs.Sound.{IsSoundGame};
 ghost use Rattle.rbg_game.specs.Meaning.{game_of};
 ghost use Rattle.rbg_game.specs.Depth.{rules_depth};
-ghost use Rattle.rbg_read.specs.Reading.{Reads, Fault};
+ghost use Rattle.rbg_read.specs.Reads.{Reads, Fault};
 
 use crate::build::build;
 use crate::checks::check;

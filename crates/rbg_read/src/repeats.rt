@@ -5,8 +5,8 @@ ghost use Rattle.std.specs.List.{list_any};
 ghost use Rattle.std.specs.Str.{bytes_eq};
 ghost use Rattle.rbg_text.specs.Said.{vertex_view};
 ghost use Rattle.rbg_read.specs.Causes.{has_repeat};
-ghost use Rattle.rbg_read.specs.aid.Flat as spec;
-ghost use Rattle.rbg_read.specs.aid.Parts.{known_view, parts_view};
+ghost use Rattle.rbg_read.specs.lemmas.Flat as spec;
+ghost use Rattle.rbg_read.specs.lemmas.Parts.{known_view, parts_view};
 
 use crate::names::{Names, has_repeat, is_same};
 use crate::parts::Parts;

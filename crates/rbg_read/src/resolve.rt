@@ -6,12 +6,12 @@ ghost use Rattle.rbg_text.specs.View.{step_view};
 ghost use Rattle.rbg_game.specs.Meaning.{expression_of, regex_of, action_of};
 ghost use Rattle.rbg_game.specs.Rules.{Regex};
 ghost use Rattle.rbg_game.specs.Expressions.{Expression};
-ghost use Rattle.rbg_read.specs.aid.Resolve as spec;
-ghost use Rattle.rbg_read.specs.aid.Resolve.{stack_of};
-ghost use Rattle.rbg_read.specs.aid.Parts.{known_view, AreFew};
+ghost use Rattle.rbg_read.specs.lemmas.Resolve as spec;
+ghost use Rattle.rbg_read.specs.lemmas.Resolve.{stack_of};
+ghost use Rattle.rbg_read.specs.lemmas.Parts.{known_view, AreFew};
 ghost use Rattle.rbg_game.specs.Depth.{rules_depth};
-ghost use Rattle.rbg_read.specs.aid.Depths.{rules_depths, IsFlatAction};
-ghost use Rattle.rbg_read.specs.aid.Flat.{is_large_number};
+ghost use Rattle.rbg_read.specs.lemmas.Depths.{rules_depths, IsFlatAction};
+ghost use Rattle.rbg_read.specs.lemmas.Flat.{is_large_number};
 
 use crate::names::Names;
 use crate::nodes::{self, FlatExpr, FlatRules};

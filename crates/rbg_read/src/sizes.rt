@@ -3,10 +3,10 @@
 ghost use Rattle.std.specs.Prelude.{◌≡◌, map, reverse, drop, slice_index, false, IfOk, if◌then◌else◌};
 ghost use Rattle.std.specs.List.{list_any};
 ghost use Rattle.rbg_text.specs.View.{step_view};
-ghost use Rattle.rbg_read.specs.aid.Parts.{known_view, AreFew};
-ghost use Rattle.rbg_read.specs.aid.Flat.{is_large_number};
-ghost use Rattle.rbg_read.specs.aid.Sizes as spec;
-ghost use Rattle.rbg_read.specs.aid.Sizes.{sizes_made};
+ghost use Rattle.rbg_read.specs.lemmas.Parts.{known_view, AreFew};
+ghost use Rattle.rbg_read.specs.lemmas.Flat.{is_large_number};
+ghost use Rattle.rbg_read.specs.lemmas.Sizes as spec;
+ghost use Rattle.rbg_read.specs.lemmas.Sizes.{sizes_made};
 
 use crate::names::Names;
 use crate::numbers::number;

@@ -2,8 +2,8 @@
 
 ghost use Rattle.std.specs.Prelude.{◌≡◌, map, reverse, drop, IfOk, if◌then◌else◌};
 ghost use Rattle.rbg_text.specs.View.{step_view};
-ghost use Rattle.rbg_read.specs.aid.Switches as spec;
-ghost use Rattle.rbg_read.specs.aid.Switches.{flags_made};
+ghost use Rattle.rbg_read.specs.lemmas.Switches as spec;
+ghost use Rattle.rbg_read.specs.lemmas.Switches.{flags_made};
 
 use rbg_text::parser::Step;
 use std::alloc::{AllocError, Global};

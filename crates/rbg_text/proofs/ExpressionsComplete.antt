@@ -4,9 +4,9 @@ use Rattle.rbg_text.specs.Token.{Text, Token}
 use Rattle.rbg_text.specs.Syntax as grammar
 use Rattle.rbg_text.specs.Syntax.{Tokens, Expr, sum_of, plus, minus, Term, product_of, times, Factor, positive, negative, Atom, literal, parenthesized}
 use Rattle.rbg_text.specs.Parse.{ParseStep, ParseState}
-use Rattle.rbg_text.specs.aid.Parse.{Parser, same_sign, sees, advance, after, expect, atom, factor, factors, term, terms, sum, expr}
+use Rattle.rbg_text.specs.lemmas.Parse.{Parser, same_sign, sees, advance, after, expect, atom, factor, factors, term, terms, sum, expr}
 use Rattle.rbg_text.specs.Postfix.{expr_onto, term_onto, factor_onto, atom_onto}
-use Rattle.rbg_text.specs.aid.Postfix.{expr_depth, term_depth, factor_depth, atom_depth}
+use Rattle.rbg_text.specs.lemmas.Postfix.{expr_depth, term_depth, factor_depth, atom_depth}
 use Rattle.rbg_text.specs.declared.token.Sign.{Sign}
 use Rattle.rbg_text.specs.declared.token.Sign.TheVariants.{OpenParen, CloseParen, Plus, Minus, Star}
 
@@ -46,26 +46,31 @@ no_minus (Atom.variable v) rest out = refl
 no_minus (parenthesized e) rest out = refl
 
 -- the loops stop where no operator follows
-factors_stop : (inner : Parser (Unit {0})) (n : ℕ) (rest : Tokens) (out : List ParseStep) → Not Star rest → factors inner n (state rest out) ≡ Some (tt, state rest out)
+factors_stop : (inner : Parser (Unit {0})) (n : ℕ) (rest : Tokens) (out : List ParseStep) → Not Star rest
+    → factors inner n (state rest out) ≡ Some (tt, state rest out)
 unfolding factors after
 factors_stop inner zero rest out stop = refl
 factors_stop inner (suc n) rest out stop = rw (stop out) refl
 
-terms_stop : (inner : Parser (Unit {0})) (n : ℕ) (rest : Tokens) (out : List ParseStep) → Not Plus rest → Not Minus rest → terms inner n (state rest out) ≡ Some (tt, state rest out)
+terms_stop : (inner : Parser (Unit {0})) (n : ℕ) (rest : Tokens) (out : List ParseStep) → Not Plus rest → Not Minus rest
+    → terms inner n (state rest out) ≡ Some (tt, state rest out)
 unfolding terms after
 terms_stop inner zero rest out p m = refl
 terms_stop inner (suc n) rest out p m = rw (p out, m out) refl
 
-literal_reads : (inner : Parser (Unit {0})) (n : Text) (rest : Tokens) (out : List ParseStep) → atom inner (state (Token.number n ∷ rest) out) ≡ Some (tt, state rest (out ++ ParseStep.number n ∷ []))
+literal_reads : (inner : Parser (Unit {0})) (n : Text) (rest : Tokens) (out : List ParseStep)
+    → atom inner (state (Token.number n ∷ rest) out) ≡ Some (tt, state rest (out ++ ParseStep.number n ∷ []))
 unfolding atom advance
 literal_reads inner n rest out = refl
 
-variable_reads : (inner : Parser (Unit {0})) (v : Text) (rest : Tokens) (out : List ParseStep) → atom inner (state (Token.name v ∷ rest) out) ≡ Some (tt, state rest (out ++ ParseStep.variable v ∷ []))
+variable_reads : (inner : Parser (Unit {0})) (v : Text) (rest : Tokens) (out : List ParseStep)
+    → atom inner (state (Token.name v ∷ rest) out) ≡ Some (tt, state rest (out ++ ParseStep.variable v ∷ []))
 unfolding atom advance
 variable_reads inner v rest out = refl
 
 -- after the front, the loop has at least as many turns as there are tokens
-pub record Goes (run : Parser (Unit {0})) (go : ℕ → Parser (Unit {0})) (here : Tokens) (before : List ParseStep) (rest : Tokens) (behind : List ParseStep) : Type 0 where
+pub record Goes (run : Parser (Unit {0})) (go : ℕ → Parser (Unit {0})) (here : Tokens) (before : List ParseStep) (rest : Tokens)
+    (behind : List ParseStep) : Type 0 where
   pub turns : ℕ
   pub enough : length rest ≤ turns
   pub goes : run (state here before) ≡ go turns (state rest behind)
@@ -114,7 +119,8 @@ module _ (inner : Parser (Unit {0})) where
   atom_inside ts rest out behind h = rw h refl
 
 -- one more turn of a loop
-pub goes_on : {run : Parser (Unit {0})} {go : ℕ → Parser (Unit {0})} {here : Tokens} {before : List ParseStep} (ts rest : Tokens) (s : Sign) (mid behind : List ParseStep)
+pub goes_on : {run : Parser (Unit {0})} {go : ℕ → Parser (Unit {0})} {here : Tokens} {before : List ParseStep} (ts rest : Tokens) (s : Sign)
+    (mid behind : List ParseStep)
     → length rest ≤ length ts → ((n : ℕ) → go (suc n) (state (grammar.mark s ts) mid) ≡ go n (state rest behind))
     → Goes run go here before (grammar.mark s ts) mid → Goes run go here before rest behind
 goes_on {run = run} {go = go} {here = here} {before = before} ts rest s mid behind le step g = again g.turns g.enough g.goes
@@ -127,7 +133,8 @@ term_stops : (inner : Parser (Unit {0})) (ts rest : Tokens) (out behind : List P
     → Reads (term inner) ts out rest behind
 term_stops inner ts rest out behind g stop = g.goes ∙ factors_stop inner g.turns rest behind stop
 
-sum_stops : (inner : Parser (Unit {0})) (ts rest : Tokens) (out behind : List ParseStep) → Goes (sum inner) (terms inner) ts out rest behind → Not Plus rest → Not Minus rest
+sum_stops : (inner : Parser (Unit {0})) (ts rest : Tokens) (out behind : List ParseStep) → Goes (sum inner) (terms inner) ts out rest behind
+    → Not Plus rest → Not Minus rest
     → Reads (sum inner) ts out rest behind
 sum_stops inner ts rest out behind g p m = g.goes ∙ terms_stop inner g.turns rest behind p m
 
@@ -157,7 +164,8 @@ mutual
   term_goes (product_of f) d rest out deep = term_start (expr d) _ rest out _ (factor_reads f d rest out deep)
   term_goes (times t f) d rest out deep =
       let h = factor_reads f d rest (term_onto t out) (omega (arith, deep)) in
-      goes_on (grammar.factor f rest) rest Star (term_onto t out) _ (omega (arith, factor_len f rest)) (λ n. factors_step (expr d) n _ rest (term_onto t out) _ h)
+      goes_on (grammar.factor f rest) rest Star (term_onto t out) _ (omega (arith, factor_len f rest))
+      (λ n. factors_step (expr d) n _ rest (term_onto t out) _ h)
       (term_goes t d (grammar.mark Star (grammar.factor f rest)) out (omega (arith, deep)))
 
   factor_reads : (f : Factor) (d : ℕ) (rest : Tokens) (out : List ParseStep) → factor_depth f ≤ d
@@ -172,7 +180,8 @@ mutual
   atom_reads (parenthesized e) zero rest out deep = absurd (omega (arith, deep))
   atom_reads (parenthesized e) (suc d) rest out deep =
       atom_inside (sum (expr d)) _ rest out _
-      (sum_stops (expr d) _ (grammar.mark CloseParen rest) out _ (expr_goes e d (grammar.mark CloseParen rest) out (omega (arith, deep)) (not_sign Star CloseParen rest refl))
+      (sum_stops (expr d) _ (grammar.mark CloseParen rest) out _
+      (expr_goes e d (grammar.mark CloseParen rest) out (omega (arith, deep)) (not_sign Star CloseParen rest refl))
       (not_sign Plus CloseParen rest refl) (not_sign Minus CloseParen rest refl))
 
 -- an expression of the grammar is read, where no operator follows it

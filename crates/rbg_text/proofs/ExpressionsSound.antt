@@ -8,15 +8,16 @@ use Rattle.rbg_text.specs.Token.{Token}
 use Rattle.rbg_text.specs.Syntax as grammar
 use Rattle.rbg_text.specs.Syntax.{Tokens, Expr, sum_of, plus, minus, Term, product_of, times, Factor, positive, negative, Atom, literal, parenthesized}
 use Rattle.rbg_text.specs.Parse.{ParseStep, ParseState}
-use Rattle.rbg_text.specs.aid.Parse.{Parser, Outcome, and_then, first, is_sign, same_sign, sees, advance, after, expect, push, atom_by}
-use Rattle.rbg_text.specs.aid.Parse.{atom, factor, factors, term, terms, sum, expr}
+use Rattle.rbg_text.specs.lemmas.Parse.{Parser, Outcome, and_then, first, is_sign, same_sign, sees, advance, after, expect, push, atom_by}
+use Rattle.rbg_text.specs.lemmas.Parse.{atom, factor, factors, term, terms, sum, expr}
 use Rattle.rbg_text.specs.Postfix.{expr_onto, term_onto, factor_onto, atom_onto}
 use Rattle.rbg_text.specs.declared.token.Sign.{Sign}
 use Rattle.rbg_text.specs.declared.token.Sign.TheVariants.{OpenParen, CloseParen, Plus, Minus, Star}
 use Rattle.rbg_text.proofs.Tokens.{chosen}
 
 -- the value of a step that did not fail
-pub bind_some : {A B : Type 0} (o : Outcome A) (f : A → Parser B) (y : B × ParseState) → and_then o f ≡ Some y → (p : A × ParseState) × (o ≡ Some p) × (f p.0 p.1 ≡ Some y)
+pub bind_some : {A B : Type 0} (o : Outcome A) (f : A → Parser B) (y : B × ParseState) → and_then o f ≡ Some y → (p : A × ParseState)
+    × (o ≡ Some p) × (f p.0 p.1 ≡ Some y)
 bind_some (Some p) f y e = (p, refl, e)
 bind_some None f y e = absurd cc
 
@@ -94,7 +95,8 @@ pub stayed : (i j : ParseState) (u v : Unit {0}) → gives v i ≡ gives u j →
 stayed i j u v e = let same = next_is _ _ _ _ e in rw (← same) (record { tokens = refl; steps = refl })
 
 module _ (inner : Parser (Unit {0})) (sound : Sound inner IsExpr) where
-  parenthesized_says : (i j : ParseState) (u : Unit {0}) → and_then (and_then (expect OpenParen i) (λ _. inner)) (λ _. expect CloseParen) ≡ Some (u, j) → IsAtom i j
+  parenthesized_says : (i j : ParseState) (u : Unit {0}) → and_then (and_then (expect OpenParen i) (λ _. inner))
+      (λ _. expect CloseParen) ≡ Some (u, j) → IsAtom i j
   parenthesized_says i j u e =
       let b = bind_some (and_then (expect OpenParen i) (λ _. inner)) _ (u, j) e in
       let a = bind_some (expect OpenParen i) _ b.0 b.1 in

@@ -50,7 +50,8 @@ mutual
   gap_at (b ∷ c ∷ cs) = elim (cases_Bool (is_blank b)) [
     | inl is ↦ rw is (blank is (gap_at (c ∷ cs)))
     | inr isnt ↦ rw isnt (elim (cases_Bool (b == 47 && c == 47)) [
-      | inl is ↦ rw is (comment_on b c cs (eqb-true b 47 (and_parts (b == 47) (c == 47) is).0) (eqb-true c 47 (and_parts (b == 47) (c == 47) is).1) (line_at cs))
+      | inl is ↦ rw is (comment_on b c cs (eqb-true b 47 (and_parts (b == 47) (c == 47) is).0)
+          (eqb-true c 47 (and_parts (b == 47) (c == 47) is).1) (line_at cs))
       | inr is ↦ rw is none
     ])
   ]

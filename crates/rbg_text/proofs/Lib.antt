@@ -1,9 +1,9 @@
 pub mod Gaps
 pub mod Tokens
-pub mod Splitting
+pub mod Splits
 pub mod LexerLemmas
 pub mod Turns
-pub mod Passing
+pub mod Exits
 pub mod Titles
 pub mod ExpressionsComplete
 pub mod ExpressionsSound
@@ -12,5 +12,5 @@ pub mod RulesComplete
 pub mod RulesSound
 pub mod SectionsSound
 pub mod SectionsComplete
-pub mod SectionsNesting
+pub mod SectionsDepth
 pub mod ReadSections

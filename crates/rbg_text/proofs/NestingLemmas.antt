@@ -5,8 +5,8 @@ use Rattle.rbg_text.specs.Syntax.{Tokens, Expr, sum_of, plus, minus, Term, produ
 use Rattle.rbg_text.specs.NestingCount.{nesting_from, count_after}
 use Rattle.rbg_text.specs.View.{token_view}
 use Rattle.rbg_text.specs.declared.token.Token.{Token as CodeToken}
-use Rattle.rbg_text.specs.aid.Postfix.{expr_depth, term_depth, factor_depth, atom_depth, assignments_depth, sum_depth, concat_depth}
-use Rattle.rbg_text.specs.aid.Postfix.{element_depth, base_depth}
+use Rattle.rbg_text.specs.lemmas.Postfix.{expr_depth, term_depth, factor_depth, atom_depth, assignments_depth, sum_depth, concat_depth}
+use Rattle.rbg_text.specs.lemmas.Postfix.{element_depth, base_depth}
 use Rattle.rbg_text.specs.declared.token.Sign.{Sign}
 use Rattle.rbg_text.specs.declared.token.Sign.TheVariants.{Star, CloseParen, CloseBracket, CloseBrace}
 use Rattle.rbg_game.specs.declared.rules.Comparison.{Comparison}
@@ -26,7 +26,8 @@ pub closed : (n : ℕ) (rest : Tokens) → nesting_from n rest ≤ nesting_from 
 closed n rest = let back : n + 1 - 1 ≡ n = omega arith in omega (arith, ap (λ k. nesting_from k rest) back)
 
 -- an operator and a further part
-joined : {n a b : ℕ} {here mid rest : Tokens} {s : Sign} → Nests n a here (grammar.mark s mid) → nesting_from n (grammar.mark s mid) ≡ max n (nesting_from n mid)
+joined : {n a b : ℕ} {here mid rest : Tokens} {s : Sign} → Nests n a here (grammar.mark s mid)
+    → nesting_from n (grammar.mark s mid) ≡ max n (nesting_from n mid)
     → Nests n b mid rest → Nests n (max a b) here rest
 joined p e q = record { inside = omega (arith, p.inside, p.behind, q.inside, e); behind = omega (arith, p.behind, q.behind, e) }
 
@@ -64,10 +65,12 @@ pub closed_brace : (n : ℕ) (rest : Tokens) → nesting_from n rest ≤ nesting
 closed_brace n rest = let back : n + 1 - 1 ≡ n = omega arith in omega (arith, ap (λ k. nesting_from k rest) back)
 
 -- a sign that is no bracket before a part, and after it
-pub after_sign : {n d : ℕ} {here rest : Tokens} {s : Sign} → nesting_from n (grammar.mark s here) ≡ max n (nesting_from n here) → Nests n d here rest → Nests n d (grammar.mark s here) rest
+pub after_sign : {n d : ℕ} {here rest : Tokens} {s : Sign} → nesting_from n (grammar.mark s here) ≡ max n (nesting_from n here)
+    → Nests n d here rest → Nests n d (grammar.mark s here) rest
 after_sign e p = record { inside = omega (arith, p.inside, e); behind = omega (arith, p.behind, e) }
 
-before_sign : {n d : ℕ} {here rest : Tokens} {s : Sign} → nesting_from n (grammar.mark s rest) ≡ max n (nesting_from n rest) → Nests n d here (grammar.mark s rest) → Nests n d here rest
+before_sign : {n d : ℕ} {here rest : Tokens} {s : Sign} → nesting_from n (grammar.mark s rest) ≡ max n (nesting_from n rest)
+    → Nests n d here (grammar.mark s rest) → Nests n d here rest
 before_sign e p = record { inside = p.inside; behind = omega (arith, p.behind, e) }
 
 -- brackets round a part
@@ -120,8 +123,10 @@ mutual
   base_nests (grammar.on ws) n rest = bracketed refl (closed_brace n rest) (set_nests ws (n + 1) (grammar.mark CloseBrace rest))
   base_nests (grammar.off w) n rest = bracketed refl (closed_bracket n rest) (word_nests w (n + 1) (grammar.mark CloseBracket rest))
   base_nests (grammar.assign a more) n rest =
-      bracketed refl (closed_bracket n rest) (after_sign refl (next_to (assignment_nests a (n + 1) _) (assignments_nest more (n + 1) (grammar.mark CloseBracket rest))))
-  base_nests (grammar.compare l t r) n rest = bracketed refl (closed_brace n rest) (after_sign refl (compared_nest l r t (n + 1) (grammar.mark CloseBrace rest)))
+      bracketed refl (closed_bracket n rest)
+      (after_sign refl (next_to (assignment_nests a (n + 1) _) (assignments_nest more (n + 1) (grammar.mark CloseBracket rest))))
+  base_nests (grammar.compare l t r) n rest = bracketed refl (closed_brace n rest)
+      (after_sign refl (compared_nest l r t (n + 1) (grammar.mark CloseBrace rest)))
   base_nests (grammar.switch w) n rest = record { inside = omega arith; behind = omega arith }
   base_nests grammar.keeper n rest = record { inside = omega arith; behind = omega arith }
   base_nests (grammar.some_word s) n rest = bracketed refl (closed_brace n rest) (after_sign refl (sum_nests s (n + 1) (grammar.mark CloseBrace rest)))

@@ -4,11 +4,11 @@ use Rattle.rbg_text.specs.Token.{Text}
 use Rattle.rbg_text.specs.Syntax as grammar
 use Rattle.rbg_text.specs.Syntax.{Tokens, Expr, Assignment, Sum, branch, Concat, single, followed, Element, once, Base}
 use Rattle.rbg_text.specs.Parse.{ParseStep}
-use Rattle.rbg_text.specs.aid.Parse.{Parser, first, same_sign, sees, advance, after, expect, expr, name, comparison, pieces, begins_element}
-use Rattle.rbg_text.specs.aid.Parse.{set, assignment, assignments, bracket, compared, pattern, brace, base, element, elements, concat}
-use Rattle.rbg_text.specs.aid.Parse.{branches, choice, rules_to}
+use Rattle.rbg_text.specs.lemmas.Parse.{Parser, first, same_sign, sees, advance, after, expect, expr, name, comparison, pieces, begins_element}
+use Rattle.rbg_text.specs.lemmas.Parse.{set, assignment, assignments, bracket, compared, pattern, brace, base, element, elements, concat}
+use Rattle.rbg_text.specs.lemmas.Parse.{branches, choice, rules_to}
 use Rattle.rbg_text.specs.Postfix.{expr_onto, among_onto, assignment_onto, assignments_onto, sum_onto, concat_onto, element_onto, base_onto}
-use Rattle.rbg_text.specs.aid.Postfix.{expr_depth, assignments_depth, sum_depth, concat_depth, element_depth, base_depth}
+use Rattle.rbg_text.specs.lemmas.Postfix.{expr_depth, assignments_depth, sum_depth, concat_depth, element_depth, base_depth}
 use Rattle.rbg_game.specs.declared.rules.Comparison.{Comparison}
 use Rattle.rbg_game.specs.declared.rules.Comparison.TheVariants as test
 use Rattle.rbg_text.specs.declared.token.Sign.{Sign}
@@ -34,19 +34,23 @@ set_reads : (ws : List Text) (rest : Tokens) (out : List ParseStep)
 unfolding set after sees same_sign advance name expect
 set_reads [] rest out = refl
 set_reads (w ∷ ws) rest out =
-    rw (pieces_read ws (length (grammar.further grammar.word ws (grammar.mark CloseBrace rest))) (grammar.mark CloseBrace rest) ((out ++ ParseStep.on ∷ []) ++ ParseStep.among w ∷ []) (omega arith) (not_sign Comma CloseBrace rest refl)) refl
+    rw (pieces_read ws (length (grammar.further grammar.word ws (grammar.mark CloseBrace rest))) (grammar.mark CloseBrace rest)
+    ((out ++ ParseStep.on ∷ []) ++ ParseStep.among w ∷ []) (omega arith) (not_sign Comma CloseBrace rest refl)) refl
 
 -- what follows a value in brackets is no operator
 module _ (s : Sign) (rest : Tokens) (star : same_sign s Star ≡ false) (plus : same_sign s Plus ≡ false) (minus : same_sign s Minus ≡ false) where
-  value_reads : (e : Expr) (d : ℕ) (out : List ParseStep) → expr_depth e < d → Reads (expr d) (grammar.expr e (grammar.mark s rest)) out (grammar.mark s rest) (expr_onto e out)
+  value_reads : (e : Expr) (d : ℕ) (out : List ParseStep) → expr_depth e < d
+      → Reads (expr d) (grammar.expr e (grammar.mark s rest)) out (grammar.mark s rest) (expr_onto e out)
   value_reads e d out deep = expr_reads e d (grammar.mark s rest) out deep (not_sign Star s rest star) (not_sign Plus s rest plus) (not_sign Minus s rest minus)
 
-assignment_reads : (a : Assignment) (d : ℕ) (s : Sign) (rest : Tokens) (out : List ParseStep) → same_sign s Star ≡ false → same_sign s Plus ≡ false → same_sign s Minus ≡ false → expr_depth a.value < d
+assignment_reads : (a : Assignment) (d : ℕ) (s : Sign) (rest : Tokens) (out : List ParseStep) → same_sign s Star ≡ false
+    → same_sign s Plus ≡ false → same_sign s Minus ≡ false → expr_depth a.value < d
     → Reads (assignment (expr d)) (grammar.assignment a (grammar.mark s rest)) out (grammar.mark s rest) (assignment_onto a out)
 unfolding assignment name advance expect sees same_sign
 assignment_reads a d s rest out star plus minus deep = rw (value_reads s rest star plus minus a.value d out deep) refl
 
-assignments_stop : (value : Parser (Unit {0})) (n : ℕ) (rest : Tokens) (out : List ParseStep) → Not Comma rest → assignments value n (state rest out) ≡ Some (tt, state rest out)
+assignments_stop : (value : Parser (Unit {0})) (n : ℕ) (rest : Tokens) (out : List ParseStep) → Not Comma rest
+    → assignments value n (state rest out) ≡ Some (tt, state rest out)
 unfolding assignments after
 assignments_stop value zero rest out stop = refl
 assignments_stop value (suc n) rest out stop = rw (stop out) refl
@@ -76,7 +80,8 @@ assignments_read (a ∷ more) (suc n) d rest out deep enough =
     (omega (arith, enough, expr_len a.value (last more rest))))
 
 bracket_list : (a : Assignment) (more : List Assignment) (d : ℕ) (rest : Tokens) (out : List ParseStep) → max (expr_depth a.value) (assignments_depth more) < d
-    → bracket (expr d) (state (grammar.mark Dollar (grammar.assignment a (last more rest))) out) ≡ Some (tt, state rest (assignments_onto more (assignment_onto a out)))
+    → bracket (expr d) (state (grammar.mark Dollar (grammar.assignment a (last more rest))) out) ≡ Some
+    (tt, state rest (assignments_onto more (assignment_onto a out)))
 unfolding bracket after sees same_sign advance expect
 bracket_list a more d rest out deep =
     let one = one_read a more d rest out (omega (arith, deep)) in
@@ -93,7 +98,8 @@ bracket_off w value rest out = refl
 compared_with : (l r : Expr) (t : Comparison) (s : Sign) (d : ℕ) (rest : Tokens) (out : List ParseStep) → max (expr_depth l) (expr_depth r) < d
     → same_sign s Star ≡ false → same_sign s Plus ≡ false → same_sign s Minus ≡ false
     → ((ts : Tokens) (o : List ParseStep) → comparison (state (grammar.mark s ts) o) ≡ Some (t, state ts o))
-    → Reads (compared (expr d)) (grammar.expr l (grammar.mark s (grammar.expr r (grammar.mark CloseBrace rest)))) out rest (expr_onto r (expr_onto l out) ++ ParseStep.compare t ∷ [])
+    → Reads (compared (expr d)) (grammar.expr l (grammar.mark s (grammar.expr r (grammar.mark CloseBrace rest)))) out rest
+    (expr_onto r (expr_onto l out) ++ ParseStep.compare t ∷ [])
 unfolding compared expect sees same_sign advance
 compared_with l r t s d rest out deep star plus minus is =
     let one = value_reads s (grammar.expr r (grammar.mark CloseBrace rest)) star plus minus l d out (omega (arith, deep)) in
@@ -101,7 +107,9 @@ compared_with l r t s d rest out deep star plus minus is =
     rw (one, is, two) refl
 
 compared_reads : (l r : Expr) (t : Comparison) (d : ℕ) (rest : Tokens) (out : List ParseStep) → max (expr_depth l) (expr_depth r) < d
-    → Reads (compared (expr d)) (grammar.expr l (grammar.mark (grammar.test_sign t) (grammar.expr r (grammar.mark CloseBrace rest)))) out rest (expr_onto r (expr_onto l out) ++ ParseStep.compare t ∷ [])
+    → Reads (compared (expr d)) (grammar.expr l
+    (grammar.mark (grammar.test_sign t) (grammar.expr r (grammar.mark CloseBrace rest)))) out rest
+    (expr_onto r (expr_onto l out) ++ ParseStep.compare t ∷ [])
 unfolding comparison same_sign advance
 compared_reads l r test.Equal d rest out deep = compared_with l r test.Equal _ d rest out deep refl refl refl (λ ts o. refl)
 compared_reads l r test.NotEqual d rest out deep = compared_with l r test.NotEqual _ d rest out deep refl refl refl (λ ts o. refl)
@@ -110,7 +118,8 @@ compared_reads l r test.LessEqual d rest out deep = compared_with l r test.LessE
 compared_reads l r test.Greater d rest out deep = compared_with l r test.Greater _ d rest out deep refl refl refl (λ ts o. refl)
 compared_reads l r test.GreaterEqual d rest out deep = compared_with l r test.GreaterEqual _ d rest out deep refl refl refl (λ ts o. refl)
 
-pattern_reads : (inner : Parser (Unit {0})) (kind : ParseStep) (ts rest : Tokens) (out behind : List ParseStep) → Reads inner ts out (grammar.mark CloseBrace rest) behind
+pattern_reads : (inner : Parser (Unit {0})) (kind : ParseStep) (ts rest : Tokens) (out behind : List ParseStep)
+    → Reads inner ts out (grammar.mark CloseBrace rest) behind
     → Reads (pattern inner kind) ts out rest (behind ++ kind ∷ [])
 unfolding pattern expect sees same_sign advance
 pattern_reads inner kind ts rest out behind h = rw h refl
@@ -161,8 +170,10 @@ mutual
   base_len (grammar.shift w) rest = omega arith
   base_len (grammar.on ws) rest = omega (arith, names_len ws (grammar.mark CloseBrace rest))
   base_len (grammar.off w) rest = omega arith
-  base_len (grammar.assign a more) rest = omega (arith, further_len more (grammar.mark CloseBracket rest), expr_len a.value (grammar.further grammar.assignment more (grammar.mark CloseBracket rest)))
-  base_len (grammar.compare l t r) rest = omega (arith, expr_len l (grammar.mark (grammar.test_sign t) (grammar.expr r (grammar.mark CloseBrace rest))), expr_len r (grammar.mark CloseBrace rest))
+  base_len (grammar.assign a more) rest = omega
+      (arith, further_len more (grammar.mark CloseBracket rest), expr_len a.value (grammar.further grammar.assignment more (grammar.mark CloseBracket rest)))
+  base_len (grammar.compare l t r) rest = omega
+      (arith, expr_len l (grammar.mark (grammar.test_sign t) (grammar.expr r (grammar.mark CloseBrace rest))), expr_len r (grammar.mark CloseBrace rest))
   base_len (grammar.switch w) rest = omega arith
   base_len grammar.keeper rest = omega arith
   base_len (grammar.some_word s) rest = omega (arith, sum_len s (grammar.mark CloseBrace rest))
@@ -175,16 +186,19 @@ module _ (inner value : Parser (Unit {0})) where
   unfolding element after
   element_once b rest out behind stop h = rw (h, stop behind) refl
 
-  element_star : (b : Base) (rest : Tokens) (out behind : List ParseStep) → Reads (base inner value) (grammar.base b (grammar.mark Star rest)) out (grammar.mark Star rest) behind
+  element_star : (b : Base) (rest : Tokens) (out behind : List ParseStep)
+      → Reads (base inner value) (grammar.base b (grammar.mark Star rest)) out (grammar.mark Star rest) behind
       → Reads (element inner value) (grammar.base b (grammar.mark Star rest)) out rest (behind ++ ParseStep.star ∷ [])
   unfolding element after sees same_sign advance
   element_star b rest out behind h = rw h refl
 
-  concat_start : (ts rest : Tokens) (out behind : List ParseStep) → Reads (element inner value) ts out rest behind → Goes (concat inner value) (elements inner value) ts out rest behind
+  concat_start : (ts rest : Tokens) (out behind : List ParseStep) → Reads (element inner value) ts out rest behind
+      → Goes (concat inner value) (elements inner value) ts out rest behind
   unfolding concat
   concat_start ts rest out behind h = record { turns = length rest; enough = omega arith; goes = rw h refl }
 
-  choice_start : (ts rest : Tokens) (out behind : List ParseStep) → Reads (concat inner value) ts out rest behind → Goes (choice inner value) (branches inner value) ts out rest behind
+  choice_start : (ts rest : Tokens) (out behind : List ParseStep) → Reads (concat inner value) ts out rest behind
+      → Goes (choice inner value) (branches inner value) ts out rest behind
   unfolding choice
   choice_start ts rest out behind h = record { turns = length rest; enough = omega arith; goes = rw h refl }
 
@@ -193,7 +207,8 @@ module _ (inner value : Parser (Unit {0})) where
   unfolding elements
   elements_step n ts rest out behind is h = rw (is, h) refl
 
-  elements_stop : (n : ℕ) (rest : Tokens) (out : List ParseStep) → begins_element (first rest) ≡ false → elements inner value n (state rest out) ≡ Some (tt, state rest out)
+  elements_stop : (n : ℕ) (rest : Tokens) (out : List ParseStep) → begins_element (first rest) ≡ false
+      → elements inner value n (state rest out) ≡ Some (tt, state rest out)
   unfolding elements
   elements_stop zero rest out stop = refl
   elements_stop (suc n) rest out stop = rw stop refl
@@ -208,7 +223,8 @@ module _ (inner value : Parser (Unit {0})) where
   branches_stop zero rest out stop = refl
   branches_stop (suc n) rest out stop = rw (stop out) refl
 
-  concat_stops : (ts rest : Tokens) (out behind : List ParseStep) → Goes (concat inner value) (elements inner value) ts out rest behind → begins_element (first rest) ≡ false
+  concat_stops : (ts rest : Tokens) (out behind : List ParseStep) → Goes (concat inner value) (elements inner value) ts out rest behind
+      → begins_element (first rest) ≡ false
       → Reads (concat inner value) ts out rest behind
   concat_stops ts rest out behind g stop = g.goes ∙ elements_stop g.turns rest behind stop
 
@@ -216,11 +232,13 @@ module _ (inner value : Parser (Unit {0})) where
       → Reads (choice inner value) ts out rest behind
   choice_stops ts rest out behind g stop = g.goes ∙ branches_stop g.turns rest behind stop
 
-  base_group : (ts rest : Tokens) (out behind : List ParseStep) → Reads inner ts out (grammar.mark CloseParen rest) behind → Reads (base inner value) (grammar.mark OpenParen ts) out rest behind
+  base_group : (ts rest : Tokens) (out behind : List ParseStep) → Reads inner ts out (grammar.mark CloseParen rest) behind
+      → Reads (base inner value) (grammar.mark OpenParen ts) out rest behind
   unfolding base expect sees same_sign advance
   base_group ts rest out behind h = rw h refl
 
-  base_bracket : (ts rest : Tokens) (out behind : List ParseStep) → Reads (bracket value) ts out rest behind → Reads (base inner value) (grammar.mark OpenBracket ts) out rest behind
+  base_bracket : (ts rest : Tokens) (out behind : List ParseStep) → Reads (bracket value) ts out rest behind
+      → Reads (base inner value) (grammar.mark OpenBracket ts) out rest behind
   unfolding base advance
   base_bracket ts rest out behind h = rw h refl
 
@@ -249,7 +267,8 @@ module _ (inner value : Parser (Unit {0})) where
   unfolding base advance
   base_name w rest out = refl
 
-  base_switch : (w : Text) (rest : Tokens) (out : List ParseStep) → Reads (base inner value) (grammar.base (grammar.switch w) rest) out rest (out ++ ParseStep.switch w ∷ [])
+  base_switch : (w : Text) (rest : Tokens) (out : List ParseStep)
+      → Reads (base inner value) (grammar.base (grammar.switch w) rest) out rest (out ++ ParseStep.switch w ∷ [])
   unfolding base advance name
   base_switch w rest out = refl
 
@@ -276,7 +295,8 @@ mutual
       choice_start (rules_to d) (expr d) _ rest out _ (concat_stops (rules_to d) (expr d) _ rest out _ (concat_goes c d rest out deep star) stop)
   sum_goes (grammar.either s c) d rest out deep star stop =
       let h = concat_stops (rules_to d) (expr d) _ rest (sum_onto s out) _ (concat_goes c d rest (sum_onto s out) (omega (arith, deep)) star) stop in
-      goes_on (grammar.concat c rest) rest Plus (sum_onto s out) _ (omega (arith, concat_len c rest)) (λ n. branches_step (rules_to d) (expr d) n _ rest (sum_onto s out) _ h)
+      goes_on (grammar.concat c rest) rest Plus (sum_onto s out) _ (omega (arith, concat_len c rest))
+      (λ n. branches_step (rules_to d) (expr d) n _ rest (sum_onto s out) _ h)
       (sum_goes s d (grammar.mark Plus (grammar.concat c rest)) out (omega (arith, deep)) (not_sign Star Plus (grammar.concat c rest) refl) refl)
 
   concat_goes : (c : Concat) (d : ℕ) (rest : Tokens) (out : List ParseStep) → concat_depth c ≤ d → Not Star rest
@@ -284,7 +304,8 @@ mutual
   concat_goes (single e) d rest out deep star = concat_start (rules_to d) (expr d) _ rest out _ (element_reads e d rest out deep star)
   concat_goes (followed c e) d rest out deep star =
       let h = element_reads e d rest (concat_onto c out) (omega (arith, deep)) star in
-      goes_by (grammar.element e rest) rest (concat_onto c out) _ (element_len e rest) (λ n. elements_step (rules_to d) (expr d) n _ rest (concat_onto c out) _ (begins e rest) h)
+      goes_by (grammar.element e rest) rest (concat_onto c out) _ (element_len e rest)
+      (λ n. elements_step (rules_to d) (expr d) n _ rest (concat_onto c out) _ (begins e rest) h)
       (concat_goes c d (grammar.element e rest) out (omega (arith, deep)) (no_star e rest))
 
   element_reads : (e : Element) (d : ℕ) (rest : Tokens) (out : List ParseStep) → element_depth e ≤ d → Not Star rest
@@ -304,18 +325,25 @@ mutual
   base_reads (grammar.some_word s) zero rest out deep = absurd (omega (arith, deep))
   base_reads (grammar.some_word s) (suc d) rest out deep =
       base_some_word (rules_to (suc d)) (expr (suc d)) _ rest out _ (pattern_reads (rules_to (suc d)) ParseStep.some_word _ rest out _
-      (choice_stops (rules_to d) (expr d) _ (grammar.mark CloseBrace rest) out _ (sum_goes s d (grammar.mark CloseBrace rest) out (omega (arith, deep)) (not_sign Star CloseBrace rest refl) refl) (not_sign Plus CloseBrace rest refl)))
+      (choice_stops (rules_to d) (expr d) _ (grammar.mark CloseBrace rest) out _
+      (sum_goes s d (grammar.mark CloseBrace rest) out (omega (arith, deep)) (not_sign Star CloseBrace rest refl) refl)
+      (not_sign Plus CloseBrace rest refl)))
   base_reads (grammar.no_word s) zero rest out deep = absurd (omega (arith, deep))
   base_reads (grammar.no_word s) (suc d) rest out deep =
       base_no_word (rules_to (suc d)) (expr (suc d)) _ rest out _ (pattern_reads (rules_to (suc d)) ParseStep.no_word _ rest out _
-      (choice_stops (rules_to d) (expr d) _ (grammar.mark CloseBrace rest) out _ (sum_goes s d (grammar.mark CloseBrace rest) out (omega (arith, deep)) (not_sign Star CloseBrace rest refl) refl) (not_sign Plus CloseBrace rest refl)))
+      (choice_stops (rules_to d) (expr d) _ (grammar.mark CloseBrace rest) out _
+      (sum_goes s d (grammar.mark CloseBrace rest) out (omega (arith, deep)) (not_sign Star CloseBrace rest refl) refl)
+      (not_sign Plus CloseBrace rest refl)))
   base_reads (grammar.group s) zero rest out deep = absurd (omega (arith, deep))
   base_reads (grammar.group s) (suc d) rest out deep =
       base_group (rules_to (suc d)) (expr (suc d)) _ rest out _
-      (choice_stops (rules_to d) (expr d) _ (grammar.mark CloseParen rest) out _ (sum_goes s d (grammar.mark CloseParen rest) out (omega (arith, deep)) (not_sign Star CloseParen rest refl) refl) (not_sign Plus CloseParen rest refl))
+      (choice_stops (rules_to d) (expr d) _ (grammar.mark CloseParen rest) out _
+      (sum_goes s d (grammar.mark CloseParen rest) out (omega (arith, deep)) (not_sign Star CloseParen rest refl) refl)
+      (not_sign Plus CloseParen rest refl))
 
 -- rules of the grammar are read, where nothing that goes on with them follows
-pub rules_read : (s : Sum) (d : ℕ) (rest : Tokens) (out : List ParseStep) → sum_depth s < d → Not Star rest → begins_element (first rest) ≡ false → Not Plus rest
+pub rules_read : (s : Sum) (d : ℕ) (rest : Tokens) (out : List ParseStep) → sum_depth s < d → Not Star rest
+    → begins_element (first rest) ≡ false → Not Plus rest
     → Reads (rules_to d) (grammar.sum s rest) out rest (sum_onto s out)
 unfolding rules_to
 rules_read s zero rest out deep star stop plus = absurd (omega (arith, deep))

@@ -7,9 +7,9 @@ use Rattle.rbg_text.specs.Token.{Text, Token}
 use Rattle.rbg_text.specs.Syntax as grammar
 use Rattle.rbg_text.specs.Syntax.{Tokens, Expr, Assignment, Sum, branch, Concat, single, followed, Element, once, Base}
 use Rattle.rbg_text.specs.Parse.{ParseStep, ParseState}
-use Rattle.rbg_text.specs.aid.Parse.{Parser, and_then, first, sees, advance, after, eat, expect, push, done, expr, name_by, name, test_of}
-use Rattle.rbg_text.specs.aid.Parse.{comparison_by, comparison, pieces, begins_element, set, assignment, assignments, bracket, compared}
-use Rattle.rbg_text.specs.aid.Parse.{pattern, brace, base_by, base, element, elements, concat, branches, choice, rules_to}
+use Rattle.rbg_text.specs.lemmas.Parse.{Parser, and_then, first, sees, advance, after, eat, expect, push, done, expr, name_by, name, test_of}
+use Rattle.rbg_text.specs.lemmas.Parse.{comparison_by, comparison, pieces, begins_element, set, assignment, assignments, bracket, compared}
+use Rattle.rbg_text.specs.lemmas.Parse.{pattern, brace, base_by, base, element, elements, concat, branches, choice, rules_to}
 use Rattle.rbg_text.specs.Postfix.{expr_onto, among_onto, assignment_onto, assignments_onto, sum_onto, concat_onto, element_onto, base_onto}
 use Rattle.rbg_game.specs.declared.rules.Comparison.{Comparison}
 use Rattle.rbg_game.specs.declared.rules.Comparison.TheVariants as test
@@ -102,7 +102,12 @@ set_says i j u e =
     elim (cases_Bool (sees CloseBrace k)) [
       | inl is ↦
           let p = stayed (advance k) j u tt (rw is at e) in
-          record { what = grammar.on []; tokens = ap (λ ts. grammar.mark OpenBrace ts) (seen CloseBrace k is ∙ ap (λ ts. grammar.mark CloseBrace ts) p.tokens); steps = p.steps }
+          record {
+            what = grammar.on [];
+            tokens = ap (λ ts. grammar.mark OpenBrace ts)
+                (seen CloseBrace k is ∙ ap (λ ts. grammar.mark CloseBrace ts) p.tokens);
+            steps = p.steps;
+          }
       | inr isnt ↦
           let b = bind_some (name k) _ (u, j) (rw isnt at e) in
           let w = named k b.0.1 b.0.0 b.1 in
@@ -112,7 +117,8 @@ set_says i j u e =
           let closing = expected CloseBrace c.0.1 j u c.2 in
           record {
             what = grammar.on (b.0.0 ∷ more.what);
-            tokens = ap (λ ts. grammar.mark OpenBrace ts) (w.tokens ∙ ap (λ ts. grammar.word b.0.0 ts) (more.tokens ∙ ap (λ ts. grammar.further grammar.word more.what ts) closing.tokens));
+            tokens = ap (λ ts. grammar.mark OpenBrace ts)
+                (w.tokens ∙ ap (λ ts. grammar.word b.0.0 ts) (more.tokens ∙ ap (λ ts. grammar.further grammar.word more.what ts) closing.tokens));
             steps = sym closing.steps ∙ (more.steps ∙ ap (λ out. among_onto more.what (out ++ ParseStep.among b.0.0 ∷ [])) w.steps);
           }
     ]
@@ -130,11 +136,13 @@ module _ (value : Parser (Unit {0})) (values : Sound value IsExpr) where
       let p = pushed (ParseStep.assign b.0.0) d.0.1 j u d.2 in
       record {
         what = record { target = b.0.0; value = v.what };
-        tokens = w.tokens ∙ ap (λ ts. grammar.word b.0.0 ts) (eq.tokens ∙ ap (λ ts. grammar.mark Equal ts) (v.tokens ∙ ap (λ ts. grammar.expr v.what ts) p.tokens));
+        tokens = w.tokens ∙ ap (λ ts. grammar.word b.0.0 ts)
+            (eq.tokens ∙ ap (λ ts. grammar.mark Equal ts) (v.tokens ∙ ap (λ ts. grammar.expr v.what ts) p.tokens));
         steps = p.steps ∙ ap (λ out. out ++ ParseStep.assign b.0.0 ∷ []) (v.steps ∙ ap (λ out. expr_onto v.what out) (sym eq.steps ∙ w.steps));
       }
 
-  assignments_say : (n : ℕ) (i j : ParseState) (u : Unit {0}) → assignments value n i ≡ Some (u, j) → Says (grammar.further grammar.assignment) assignments_onto i j
+  assignments_say : (n : ℕ) (i j : ParseState) (u : Unit {0}) → assignments value n i ≡ Some (u, j)
+      → Says (grammar.further grammar.assignment) assignments_onto i j
   unfolding assignments after advance
   assignments_say zero i j u e = let p = stayed i j u tt e in record { what = []; tokens = p.tokens; steps = p.steps }
   assignments_say (suc n) i j u e = elim (cases_Bool (sees Comma i)) [
@@ -177,7 +185,8 @@ module _ (value : Parser (Unit {0})) (values : Sound value IsExpr) where
   ]
 
   -- after `{$`, which stood in the place of `mark Dollar`
-  compared_says : (i j k : ParseState) (u : Unit {0}) → k.tokens ≡ grammar.mark Dollar i.tokens → k.steps ≡ i.steps → compared value i ≡ Some (u, j) → Behind OpenBrace k j
+  compared_says : (i j k : ParseState) (u : Unit {0}) → k.tokens ≡ grammar.mark Dollar i.tokens → k.steps ≡ i.steps
+      → compared value i ≡ Some (u, j) → Behind OpenBrace k j
   unfolding compared
   compared_says i j k u dollar same e =
       let b = bind_some (value i) _ (u, j) e in
@@ -190,8 +199,10 @@ module _ (value : Parser (Unit {0})) (values : Sound value IsExpr) where
       record {
         what = grammar.compare l.what c.0.0 r.what;
         tokens = ap (λ ts. grammar.mark OpenBrace ts) (dollar ∙ ap (λ ts. grammar.mark Dollar ts)
-            (l.tokens ∙ ap (λ ts. grammar.expr l.what ts) (t.tokens ∙ ap (λ ts. grammar.mark (grammar.test_sign c.0.0) ts) (r.tokens ∙ ap (λ ts. grammar.expr r.what ts) closing.tokens))));
-        steps = sym closing.steps ∙ ap (λ out. out ++ ParseStep.compare c.0.0 ∷ []) (r.steps ∙ ap (λ out. expr_onto r.what out) (t.steps ∙ (l.steps ∙ ap (λ out. expr_onto l.what out) (sym same))));
+            (l.tokens ∙ ap (λ ts. grammar.expr l.what ts)
+            (t.tokens ∙ ap (λ ts. grammar.mark (grammar.test_sign c.0.0) ts) (r.tokens ∙ ap (λ ts. grammar.expr r.what ts) closing.tokens))));
+        steps = sym closing.steps ∙ ap (λ out. out ++ ParseStep.compare c.0.0 ∷ [])
+            (r.steps ∙ ap (λ out. expr_onto r.what out) (t.steps ∙ (l.steps ∙ ap (λ out. expr_onto l.what out) (sym same))));
       }
 
 module _ (inner value : Parser (Unit {0})) (sums : Sound inner IsSum) (values : Sound value IsExpr) where
@@ -220,11 +231,21 @@ module _ (inner value : Parser (Unit {0})) (sums : Sound inner IsSum) (values : 
     | inr isnt ↦ elim (cases_Bool (sees Question i)) [
       | inl is ↦
           let p = pattern_says ParseStep.some_word (advance i) j u (rw (isnt, is) at e) in
-          record { what = grammar.some_word p.what; tokens = ap (λ ts. grammar.mark OpenBrace ts) (seen Question i is ∙ ap (λ ts. grammar.mark Question ts) p.tokens); steps = p.steps }
+          record {
+            what = grammar.some_word p.what;
+            tokens = ap (λ ts. grammar.mark OpenBrace ts)
+                (seen Question i is ∙ ap (λ ts. grammar.mark Question ts) p.tokens);
+            steps = p.steps;
+          }
       | inr isnt2 ↦ elim (cases_Bool (sees Exclamation i)) [
         | inl is ↦
             let p = pattern_says ParseStep.no_word (advance i) j u (rw (isnt, isnt2, is) at e) in
-            record { what = grammar.no_word p.what; tokens = ap (λ ts. grammar.mark OpenBrace ts) (seen Exclamation i is ∙ ap (λ ts. grammar.mark Exclamation ts) p.tokens); steps = p.steps }
+            record {
+              what = grammar.no_word p.what;
+              tokens = ap (λ ts. grammar.mark OpenBrace ts)
+                  (seen Exclamation i is ∙ ap (λ ts. grammar.mark Exclamation ts) p.tokens);
+              steps = p.steps;
+            }
         | inr isnt3 ↦ set_says i j u (rw (isnt, isnt2, isnt3) at e)
       ]
     ]
@@ -275,7 +296,8 @@ module _ (inner value : Parser (Unit {0})) (sums : Sound inner IsSum) (values : 
       let a = base_says i b.0.1 b.0.0 b.1 in
       star_says i b.0.1 j u a b.2
     where
-      star_says : (i k j : ParseState) (u : Unit {0}) → IsBase i k → and_then (eat Star k) (λ b. if b then push ParseStep.star else done) ≡ Some (u, j) → IsElement i j
+      star_says : (i k j : ParseState) (u : Unit {0}) → IsBase i k
+          → and_then (eat Star k) (λ b. if b then push ParseStep.star else done) ≡ Some (u, j) → IsElement i j
       star_says i k j u a e = elim (cases_Bool (sees Star k)) [
         | inl is ↦
             let p = pushed ParseStep.star (advance k) j u (rw is at e) in

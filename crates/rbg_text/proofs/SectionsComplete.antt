@@ -7,12 +7,12 @@ use Rattle.rbg_text.specs.Syntax as grammar
 use Rattle.rbg_text.specs.Syntax.{Tokens, Declaration, WrittenArrow, WrittenVertex, Further, after_comma, at_once, Section}
 use Rattle.rbg_text.specs.NestingCount.{nesting_from}
 use Rattle.rbg_text.specs.Parse.{ParseStep}
-use Rattle.rbg_text.specs.aid.Parse.{Parser, first, same_sign, sees, advance, after, expect, name, begins_element, rules_to}
+use Rattle.rbg_text.specs.lemmas.Parse.{Parser, first, same_sign, sees, advance, after, expect, name, begins_element, rules_to}
 use Rattle.rbg_text.specs.Said.{Said, further_vertex, said_of}
-use Rattle.rbg_text.specs.aid.ParseSections.{items, listed, number, declaration, arrow, arrows, vertex, is_name, vertices, all_vertices}
-use Rattle.rbg_text.specs.aid.ParseSections.{all_variables, all_rules, section_by, section, is_done, sections}
+use Rattle.rbg_text.specs.lemmas.ParseSections.{items, listed, number, declaration, arrow, arrows, vertex, is_name, vertices, all_vertices}
+use Rattle.rbg_text.specs.lemmas.ParseSections.{all_variables, all_rules, section_by, section, is_done, sections}
 use Rattle.rbg_text.specs.Postfix.{sum_onto}
-use Rattle.rbg_text.specs.aid.Postfix.{sum_depth}
+use Rattle.rbg_text.specs.lemmas.Postfix.{sum_depth}
 use Rattle.rbg_text.specs.declared.token.Sign.{Sign}
 use Rattle.rbg_text.specs.declared.token.Sign.TheVariants.{Hash, Comma, Colon, Equal, OpenParen, CloseParen, OpenBracket, CloseBracket, OpenBrace, CloseBrace, Star, Plus}
 use Rattle.rbg_text.proofs.ExpressionsComplete.{state, Not, not_sign}
@@ -45,7 +45,8 @@ module _ {X : Type 0} (item : Parser X) (said : X → Tokens → Tokens) (reads 
       let le : length (grammar.further said more rest) ≤ n = omega (arith, enough, takes x (grammar.further said more rest)) in
       rw one (items_read more n (xs ++ x ∷ []) rest out le stop ∙ ap (λ ys. Some (ys, state rest out)) (append_assoc xs (x ∷ []) more))
 
-  listed_read : (x : X) (more : List X) (rest : Tokens) (out : List ParseStep) → Not Comma rest → listed item (state (said x (grammar.further said more rest)) out) ≡ Some (x ∷ more, state rest out)
+  listed_read : (x : X) (more : List X) (rest : Tokens) (out : List ParseStep) → Not Comma rest
+      → listed item (state (said x (grammar.further said more rest)) out) ≡ Some (x ∷ more, state rest out)
   unfolding listed
   listed_read x more rest out stop =
       let one = reads x (grammar.further said more rest) out in
@@ -72,10 +73,12 @@ arrow_reads a rest out = refl
 arrow_takes : TakesTokens grammar.arrow
 arrow_takes a rest = omega arith
 
-arrows_read : (all : List WrittenArrow) (rest : Tokens) (out : List ParseStep) → arrows (state (grammar.commas grammar.arrow all (grammar.mark CloseBrace rest)) out) ≡ Some (all, state (grammar.mark CloseBrace rest) out)
+arrows_read : (all : List WrittenArrow) (rest : Tokens) (out : List ParseStep)
+    → arrows (state (grammar.commas grammar.arrow all (grammar.mark CloseBrace rest)) out) ≡ Some (all, state (grammar.mark CloseBrace rest) out)
 unfolding arrows sees same_sign
 arrows_read [] rest out = refl
-arrows_read (a ∷ more) rest out = listed_read arrow grammar.arrow arrow_reads arrow_takes a more (grammar.mark CloseBrace rest) out (not_sign Comma CloseBrace rest refl)
+arrows_read (a ∷ more) rest out = listed_read arrow grammar.arrow arrow_reads arrow_takes a more (grammar.mark CloseBrace rest) out
+    (not_sign Comma CloseBrace rest refl)
 
 vertex_reads : ReadsItem vertex grammar.vertex
 unfolding vertex name expect sees same_sign advance
@@ -88,7 +91,8 @@ commas_len (a ∷ more) rest = omega (arith, further_len arrow grammar.arrow arr
 vertex_takes : TakesTokens grammar.vertex
 vertex_takes v rest = omega (arith, commas_len v.arrows (grammar.mark CloseBrace rest))
 
-vertices_stop : (n : ℕ) (xs : List WrittenVertex) (rest : Tokens) (out : List ParseStep) → Not Comma rest → is_name (first rest) ≡ false → vertices n xs (state rest out) ≡ Some (xs, state rest out)
+vertices_stop : (n : ℕ) (xs : List WrittenVertex) (rest : Tokens) (out : List ParseStep) → Not Comma rest → is_name (first rest) ≡ false
+    → vertices n xs (state rest out) ≡ Some (xs, state rest out)
 unfolding vertices after
 vertices_stop zero xs rest out stop other = refl
 vertices_stop (suc n) xs rest out stop other = rw (stop out, other) refl
@@ -98,7 +102,8 @@ vertices_len [] rest = omega arith
 vertices_len (after_comma v ∷ more) rest = omega (arith, vertices_len more rest, vertex_takes v (grammar.further_vertices more rest))
 vertices_len (at_once v ∷ more) rest = omega (arith, vertices_len more rest, vertex_takes v (grammar.further_vertices more rest))
 
-vertices_read : (more : List Further) (n : ℕ) (xs : List WrittenVertex) (rest : Tokens) (out : List ParseStep) → length (grammar.further_vertices more rest) ≤ n → Not Comma rest → is_name (first rest) ≡ false
+vertices_read : (more : List Further) (n : ℕ) (xs : List WrittenVertex) (rest : Tokens) (out : List ParseStep)
+    → length (grammar.further_vertices more rest) ≤ n → Not Comma rest → is_name (first rest) ≡ false
     → vertices n xs (state (grammar.further_vertices more rest) out) ≡ Some (xs ++ map further_vertex more, state rest out)
 unfolding vertices after sees same_sign advance
 vertices_read [] n xs rest out enough stop other = rw append-nil (vertices_stop n xs rest out stop other)
@@ -107,11 +112,13 @@ vertices_read (at_once v ∷ more) zero xs rest out enough stop other = absurd (
 vertices_read (after_comma v ∷ more) (suc n) xs rest out enough stop other =
     let one = vertex_reads v (grammar.further_vertices more rest) out in
     let le : length (grammar.further_vertices more rest) ≤ n = omega (arith, enough, vertex_takes v (grammar.further_vertices more rest)) in
-    rw one (vertices_read more n (xs ++ v ∷ []) rest out le stop other ∙ ap (λ ys. Some (ys, state rest out)) (append_assoc xs (v ∷ []) (map further_vertex more)))
+    rw one (vertices_read more n (xs ++ v ∷ []) rest out le stop other
+    ∙ ap (λ ys. Some (ys, state rest out)) (append_assoc xs (v ∷ []) (map further_vertex more)))
 vertices_read (at_once v ∷ more) (suc n) xs rest out enough stop other =
     let one = vertex_reads v (grammar.further_vertices more rest) out in
     let le : length (grammar.further_vertices more rest) ≤ n = omega (arith, enough, vertex_takes v (grammar.further_vertices more rest)) in
-    rw one (vertices_read more n (xs ++ v ∷ []) rest out le stop other ∙ ap (λ ys. Some (ys, state rest out)) (append_assoc xs (v ∷ []) (map further_vertex more)))
+    rw one (vertices_read more n (xs ++ v ∷ []) rest out le stop other
+    ∙ ap (λ ys. Some (ys, state rest out)) (append_assoc xs (v ∷ []) (map further_vertex more)))
 
 board_read : (v : WrittenVertex) (more : List Further) (rest : Tokens) (out : List ParseStep) → Not Comma rest → is_name (first rest) ≡ false
     → all_vertices (state (grammar.vertex v (grammar.further_vertices more rest)) out) ≡ Some (v ∷ map further_vertex more, state rest out)
@@ -148,13 +155,15 @@ abbrev pub IsShallow : Section → Type 0
 IsShallow (grammar.rules s) = sum_depth s < 65
 IsShallow _ = Unit {0}
 
-rules_all_read : (s : grammar.Sum) (rest : Tokens) → sum_depth s < 65 → Ends rest → all_rules (state (grammar.sum s rest) []) ≡ Some (sum_onto s [], state rest [])
+rules_all_read : (s : grammar.Sum) (rest : Tokens) → sum_depth s < 65 → Ends rest
+    → all_rules (state (grammar.sum s rest) []) ≡ Some (sum_onto s [], state rest [])
 unfolding all_rules
 rules_all_read s rest deep end = rw (rules_read s 65 rest [] deep end.star end.element end.plus) refl
 
 section_reads : (s : Section) (rest : Tokens) → IsShallow s → Ends rest → section (state (grammar.section s rest) []) ≡ Some (said_of s, state rest [])
 unfolding section section_by name expect sees same_sign advance
-section_reads (grammar.players head more) rest deep end = rw (listed_read declaration grammar.declaration declaration_reads declaration_takes head more rest [] end.comma) refl
+section_reads (grammar.players head more) rest deep end = rw
+    (listed_read declaration grammar.declaration declaration_reads declaration_takes head more rest [] end.comma) refl
 section_reads (grammar.pieces head more) rest deep end = rw (listed_read name grammar.word name_reads name_takes head more rest [] end.comma) refl
 section_reads (grammar.variables all) rest deep end = rw (variables_read all rest [] end.comma end.name) refl
 section_reads (grammar.board head more) rest deep end = rw (board_read head more rest [] end.comma end.name) refl

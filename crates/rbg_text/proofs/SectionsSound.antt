@@ -9,11 +9,11 @@ use Rattle.rbg_text.specs.Token.{Text, Token}
 use Rattle.rbg_text.specs.Syntax as grammar
 use Rattle.rbg_text.specs.Syntax.{Tokens, Declaration, WrittenArrow, WrittenVertex, Further, after_comma, at_once, Section}
 use Rattle.rbg_text.specs.Parse.{ParseStep, ParseState}
-use Rattle.rbg_text.specs.aid.Parse.{Parser, first, sees, advance, after, expect, name, rules_to}
+use Rattle.rbg_text.specs.lemmas.Parse.{Parser, first, sees, advance, after, expect, name, rules_to}
 use Rattle.rbg_text.specs.Said.{Said, further_vertex, said_of}
-use Rattle.rbg_text.specs.aid.ParseSections as parse
-use Rattle.rbg_text.specs.aid.ParseSections.{items, listed, number_by, number, declaration, arrow, arrows, vertex, is_name, vertices}
-use Rattle.rbg_text.specs.aid.ParseSections.{all_vertices, all_variables, all_rules, section_by, section, is_done, sections}
+use Rattle.rbg_text.specs.lemmas.ParseSections as parse
+use Rattle.rbg_text.specs.lemmas.ParseSections.{items, listed, number_by, number, declaration, arrow, arrows, vertex, is_name, vertices}
+use Rattle.rbg_text.specs.lemmas.ParseSections.{all_vertices, all_variables, all_rules, section_by, section, is_done, sections}
 use Rattle.rbg_text.specs.Postfix.{sum_onto}
 use Rattle.rbg_text.specs.declared.token.Sign.{Sign}
 use Rattle.rbg_text.specs.declared.token.Sign.TheVariants.{Hash, Comma, Colon, Equal, OpenParen, CloseParen, OpenBracket, CloseBracket, OpenBrace, CloseBrace}
@@ -82,7 +82,8 @@ record Some_of {X : Type 0} (said : X → Tokens → Tokens) (i j : ParseState) 
   tokens : i.tokens ≡ said head (grammar.further said more j.tokens)
   steps : j.steps ≡ i.steps
 
-listed_some : {X : Type 0} (item : Parser X) (said : X → Tokens → Tokens) → GetsAs item said → (i j : ParseState) (ys : List X) → listed item i ≡ Some (ys, j) → Some_of said i j ys
+listed_some : {X : Type 0} (item : Parser X) (said : X → Tokens → Tokens) → GetsAs item said → (i j : ParseState) (ys : List X)
+    → listed item i ≡ Some (ys, j) → Some_of said i j ys
 unfolding listed
 listed_some item said gets i j ys e =
     let b = bind_some (item i) _ (ys, j) e in
@@ -103,7 +104,8 @@ declaration_got i j x e =
     let t = expected CloseParen c.0.1 d.0.1 d.0.0 d.1 in
     let p = some_pair_parts _ _ _ _ d.2 in
     moved _ i _ j _ x p (record {
-      tokens = w.tokens ∙ ap (λ ts. grammar.word a.0.0 ts) (s.tokens ∙ ap (λ ts. grammar.mark OpenParen ts) (n.tokens ∙ ap (λ ts. Token.number c.0.0 ∷ ts) t.tokens));
+      tokens = w.tokens ∙ ap (λ ts. grammar.word a.0.0 ts)
+          (s.tokens ∙ ap (λ ts. grammar.mark OpenParen ts) (n.tokens ∙ ap (λ ts. Token.number c.0.0 ∷ ts) t.tokens));
       steps = sym t.steps ∙ n.steps ∙ sym s.steps ∙ w.steps;
     })
 
@@ -160,7 +162,8 @@ vertex_got i j x e =
     let p = some_pair_parts _ _ _ _ h.2 in
     moved _ i _ j _ x p (record {
       tokens = w.tokens ∙ ap (λ ts. grammar.word a.0.0 ts) (s.tokens ∙ ap (λ ts. grammar.mark OpenBracket ts) (n.tokens ∙ ap (λ ts. grammar.word c.0.0 ts)
-          (t.tokens ∙ ap (λ ts. grammar.mark CloseBracket ts) (o.tokens ∙ ap (λ ts. grammar.mark OpenBrace ts) (all.tokens ∙ ap (λ ts. grammar.commas grammar.arrow g.0.0 ts) q.tokens)))));
+          (t.tokens ∙ ap (λ ts. grammar.mark CloseBracket ts)
+          (o.tokens ∙ ap (λ ts. grammar.mark OpenBrace ts) (all.tokens ∙ ap (λ ts. grammar.commas grammar.arrow g.0.0 ts) q.tokens)))));
       steps = sym q.steps ∙ all.steps ∙ sym o.steps ∙ sym t.steps ∙ n.steps ∙ sym s.steps ∙ w.steps;
     })
 
@@ -263,7 +266,8 @@ all_rules_got i j out none e =
     }
 
 -- what was read under the title
-titled : (title word : Text) (what : Section) (i k j : ParseState) (said x : Said) → title ≡ word → said_of what ≡ said → grammar.headed word i.tokens ≡ grammar.section what k.tokens
+titled : (title word : Text) (what : Section) (i k j : ParseState) (said x : Said) → title ≡ word → said_of what ≡ said
+    → grammar.headed word i.tokens ≡ grammar.section what k.tokens
     → k.steps ≡ [] → parse.give said k ≡ Some (x, j) → Titled title i j x
 titled title word what i k j said x same is tokens steps e =
     let p = some_pair_parts said x k j e in
@@ -283,27 +287,32 @@ titled_says title i j x none e = elim (cases_Bool (bytes_eq title (codes "player
   | inl is ↦
       let b = bind_some (listed declaration i) _ (x, j) (rw is at e) in
       let s = listed_some declaration grammar.declaration declaration_got i b.0.1 b.0.0 b.1 in
-      titled title _ (grammar.players s.head s.more) i b.0.1 j _ x (is_word title _ is) (ap Said.players (sym s.is)) (ap (λ ts. grammar.headed (codes "players") ts) s.tokens) (s.steps ∙ none) b.2
+      titled title _ (grammar.players s.head s.more) i b.0.1 j _ x (is_word title _ is) (ap Said.players (sym s.is))
+      (ap (λ ts. grammar.headed (codes "players") ts) s.tokens) (s.steps ∙ none) b.2
   | inr not_players ↦ elim (cases_Bool (bytes_eq title (codes "pieces"))) [
     | inl is ↦
         let b = bind_some (listed name i) _ (x, j) (rw (not_players, is) at e) in
         let s = listed_some name grammar.word name_got i b.0.1 b.0.0 b.1 in
-        titled title _ (grammar.pieces s.head s.more) i b.0.1 j _ x (is_word title _ is) (ap Said.pieces (sym s.is)) (ap (λ ts. grammar.headed (codes "pieces") ts) s.tokens) (s.steps ∙ none) b.2
+        titled title _ (grammar.pieces s.head s.more) i b.0.1 j _ x (is_word title _ is) (ap Said.pieces (sym s.is))
+        (ap (λ ts. grammar.headed (codes "pieces") ts) s.tokens) (s.steps ∙ none) b.2
     | inr not_pieces ↦ elim (cases_Bool (bytes_eq title (codes "variables"))) [
       | inl is ↦
           let b = bind_some (all_variables i) _ (x, j) (rw (not_players, not_pieces, is) at e) in
           let s = variables_got i b.0.1 b.0.0 b.1 in
-          titled title _ (grammar.variables b.0.0) i b.0.1 j _ x (is_word title _ is) refl (ap (λ ts. grammar.headed (codes "variables") ts) s.tokens) (s.steps ∙ none) b.2
+          titled title _ (grammar.variables b.0.0) i b.0.1 j _ x (is_word title _ is) refl
+          (ap (λ ts. grammar.headed (codes "variables") ts) s.tokens) (s.steps ∙ none) b.2
       | inr not_variables ↦ elim (cases_Bool (bytes_eq title (codes "board"))) [
         | inl is ↦
             let b = bind_some (all_vertices i) _ (x, j) (rw (not_players, not_pieces, not_variables, is) at e) in
             let s = board_got i b.0.1 b.0.0 b.1 in
-            titled title _ (grammar.board s.head s.more) i b.0.1 j _ x (is_word title _ is) (ap Said.board (sym s.is)) (ap (λ ts. grammar.headed (codes "board") ts) s.tokens) (s.steps ∙ none) b.2
+            titled title _ (grammar.board s.head s.more) i b.0.1 j _ x (is_word title _ is) (ap Said.board (sym s.is))
+            (ap (λ ts. grammar.headed (codes "board") ts) s.tokens) (s.steps ∙ none) b.2
         | inr not_board ↦ elim (cases_Bool (bytes_eq title (codes "rules"))) [
           | inl is ↦
               let b = bind_some (all_rules i) _ (x, j) (rw (not_players, not_pieces, not_variables, not_board, is) at e) in
               let s = all_rules_got i b.0.1 b.0.0 none b.1 in
-              titled title _ (grammar.rules s.what) i b.0.1 j _ x (is_word title _ is) (ap Said.rules (sym s.is)) (ap (λ ts. grammar.headed (codes "rules") ts) s.tokens) s.steps b.2
+              titled title _ (grammar.rules s.what) i b.0.1 j _ x (is_word title _ is) (ap Said.rules (sym s.is))
+              (ap (λ ts. grammar.headed (codes "rules") ts) s.tokens) s.steps b.2
           | inr not_rules ↦ let off = rw (not_players, not_pieces, not_variables, not_board, not_rules) at e in absurd cc
         ]
       ]

@@ -182,7 +182,8 @@ sign_fits text s (Token.number v) more isnt at t e =
     absurd (let on : is_word_byte (slice_index text 0) ≡ true = rw e (shows_word v more (digits_are_word v t.0) t.1) in cc)
 sign_fits text s (Token.sign u) more isnt at t e = among_longest signs text s u signs_descend at (in_signs u) (is_beginning text u more e)
 
-takes_sign : (text : Text) (s : Sign) → is_word_byte (slice_index text 0) ≡ false → sign_at text ≡ Some s → Takes text (Token.sign s) (drop (length (sign_text s)) text)
+takes_sign : (text : Text) (s : Sign) → is_word_byte (slice_index text 0) ≡ false → sign_at text ≡ Some s
+    → Takes text (Token.sign s) (drop (length (sign_text s)) text)
 unfolding sign_at
 takes_sign text s isnt at = record {
   token = tt;
@@ -190,10 +191,12 @@ takes_sign text s isnt at = record {
   longest = λ u more t e. sign_fits text s u more isnt at t e;
 }
 
-nothing_at : (text : Text) (u : Token) (more : Text) → is_word_byte (slice_index text 0) ≡ false → sign_at text ≡ None → IsToken u → text ≡ token_text u ++ more → ⊥
+nothing_at : (text : Text) (u : Token) (more : Text) → is_word_byte (slice_index text 0) ≡ false → sign_at text ≡ None → IsToken u
+    → text ≡ token_text u ++ more → ⊥
 unfolding sign_at
 nothing_at text (Token.name v) more isnt at t e = let on : is_word_byte (slice_index text 0) ≡ true = rw e (shows_word v more t.0 (name_some v t.1)) in cc
-nothing_at text (Token.number v) more isnt at t e = let on : is_word_byte (slice_index text 0) ≡ true = rw e (shows_word v more (digits_are_word v t.0) t.1) in cc
+nothing_at text (Token.number v) more isnt at t e = let on : is_word_byte (slice_index text 0) ≡ true = rw e
+    (shows_word v more (digits_are_word v t.0) t.1) in cc
 nothing_at text (Token.sign u) more isnt at t e = among_none signs text u at (in_signs u) (is_beginning text u more e)
 
 pub option_map_some : {A B : Type 0} (f : A → B) (o : Option A) (y : B) → option_map f o ≡ Some y → (x : A) × (o ≡ Some x) × (f x ≡ y)
@@ -250,6 +253,8 @@ pub takes_once : (text : Text) (t u : Token) (rest more : Text) → Takes text t
 takes_once text t u rest more p q =
     let same : length (token_text t) ≡ length (token_text u) = omega (arith, p.longest u more q.token q.written, q.longest t rest p.token p.written) in
     let both : token_text t ++ rest ≡ token_text u ++ more = sym p.written ∙ q.written in
-    let a : token_text t ≡ token_text u = sym (take_at (token_text t) rest (length (token_text u)) same) ∙ (ap (λ x. take (length (token_text u)) x) both ∙ take_at (token_text u) more (length (token_text u)) refl) in
-    let b : rest ≡ more = sym (drop_at (token_text t) rest (length (token_text u)) same) ∙ (ap (λ x. drop (length (token_text u)) x) both ∙ drop_at (token_text u) more (length (token_text u)) refl) in
+    let a : token_text t ≡ token_text u = sym (take_at (token_text t) rest (length (token_text u)) same)
+    ∙ (ap (λ x. take (length (token_text u)) x) both ∙ take_at (token_text u) more (length (token_text u)) refl) in
+    let b : rest ≡ more = sym (drop_at (token_text t) rest (length (token_text u)) same)
+    ∙ (ap (λ x. drop (length (token_text u)) x) both ∙ drop_at (token_text u) more (length (token_text u)) refl) in
     (token_same t u p.token q.token a, b)

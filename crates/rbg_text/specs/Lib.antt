@@ -6,4 +6,4 @@ pub mod Parse
 pub mod Postfix
 pub mod View
 pub mod Said
-pub mod aid
+pub mod lemmas

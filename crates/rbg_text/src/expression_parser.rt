@@ -1,7 +1,7 @@
 //! The grammar of expressions, over tokens.
 
-ghost use Rattle.rbg_text.specs.aid.Parse as spec;
-ghost use Rattle.rbg_text.specs.aid.Parse.{ReadsTokens};
+ghost use Rattle.rbg_text.specs.lemmas.Parse as spec;
+ghost use Rattle.rbg_text.specs.lemmas.Parse.{ReadsTokens};
 
 use crate::fault::ReadError;
 use crate::parser::{Parser, Step};
@@ -9,7 +9,7 @@ use crate::token::{Sign, Token};
 
 impl<'t, 'a> Parser<'t, 'a> {
     #[cycle(expr)]
-    #[tactic(auto, unfolding(crate::specs::aid::Parse::atom))]
+    #[tactic(auto, unfolding(crate::specs::lemmas::Parse::atom))]
     fn atom(&mut self, depth: usize) -> Result<(), ReadError>
         ensures { ReadsTokens (spec.atom (spec.expr depth) self.old) result self.new }
     {
@@ -31,7 +31,7 @@ impl<'t, 'a> Parser<'t, 'a> {
     }
 
     #[cycle(expr)]
-    #[tactic(auto, unfolding(crate::specs::aid::Parse::factor))]
+    #[tactic(auto, unfolding(crate::specs::lemmas::Parse::factor))]
     fn factor(&mut self, depth: usize) -> Result<(), ReadError>
         ensures { ReadsTokens (spec.factor (spec.expr depth) self.old) result self.new }
     {
@@ -44,7 +44,7 @@ impl<'t, 'a> Parser<'t, 'a> {
     }
 
     #[cycle(expr)]
-    #[tactic(auto, unfolding(crate::specs::aid::Parse::term, crate::specs::aid::Parse::factors))]
+    #[tactic(auto, unfolding(crate::specs::lemmas::Parse::term, crate::specs::lemmas::Parse::factors))]
     fn term(&mut self, depth: usize) -> Result<(), ReadError>
         ensures { ReadsTokens (spec.term (spec.expr depth) self.old) result self.new }
     {
@@ -61,7 +61,7 @@ impl<'t, 'a> Parser<'t, 'a> {
 
     /// An expression that nests no deeper than `depth`.
     #[cycle(expr)]
-    #[tactic(auto, unfolding(crate::specs::aid::Parse::expr, crate::specs::aid::Parse::sum, crate::specs::aid::Parse::terms))]
+    #[tactic(auto, unfolding(crate::specs::lemmas::Parse::expr, crate::specs::lemmas::Parse::sum, crate::specs::lemmas::Parse::terms))]
     pub(crate) fn expr(&mut self, depth: usize) -> Result<(), ReadError>
         ensures { ReadsTokens (spec.expr depth self.old) result self.new }
     {

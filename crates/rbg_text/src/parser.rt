@@ -1,9 +1,9 @@
 //! The grammar, over tokens.
 
 ghost use Rattle.std.specs.Prelude.{◌≡◌, [], map, option_map};
-ghost use Rattle.rbg_text.specs.aid.Parse as spec;
-ghost use Rattle.rbg_text.specs.aid.Parse.{ReadsTokens, ReadsAs};
-ghost use Rattle.rbg_text.specs.aid.ParseSections.{is_done};
+ghost use Rattle.rbg_text.specs.lemmas.Parse as spec;
+ghost use Rattle.rbg_text.specs.lemmas.Parse.{ReadsTokens, ReadsAs};
+ghost use Rattle.rbg_text.specs.lemmas.ParseSections.{is_done};
 ghost use Rattle.rbg_text.specs.View.{token_view, step_view};
 
 use crate::fault::ReadError;
@@ -55,7 +55,7 @@ impl<'t, 'a> Model for Parser<'t, 'a> {
     ghost view = { state_of };
 }
 
-#[tactic(auto, unfolding(crate::specs::aid::Parse::same_sign))]
+#[tactic(auto, unfolding(crate::specs::lemmas::Parse::same_sign))]
 fn same_sign(a: Sign, b: Sign) -> bool
     ensures { result ≡ spec.same_sign a b }
 {
@@ -84,7 +84,7 @@ impl<'t, 'a> Parser<'t, 'a> {
         self.tokens.len()
     }
 
-    #[tactic(auto, unfolding(crate::specs::aid::Parse::advance))]
+    #[tactic(auto, unfolding(crate::specs::lemmas::Parse::advance))]
     pub(crate) fn advance(&mut self)
         ensures { self.new ≡ spec.advance self.old }
     {
@@ -93,7 +93,7 @@ impl<'t, 'a> Parser<'t, 'a> {
         }
     }
 
-    #[tactic(auto, unfolding(crate::specs::aid::Parse::sees))]
+    #[tactic(auto, unfolding(crate::specs::lemmas::Parse::sees))]
     pub(crate) fn sees(&self, sign: Sign) -> bool
         ensures { result ≡ spec.sees sign self.now }
     {
@@ -103,7 +103,7 @@ impl<'t, 'a> Parser<'t, 'a> {
         }
     }
 
-    #[tactic(auto, unfolding(crate::specs::aid::Parse::after))]
+    #[tactic(auto, unfolding(crate::specs::lemmas::Parse::after))]
     pub(crate) fn eat(&mut self, sign: Sign) -> bool
         ensures found { result ≡ spec.sees sign self.old }
         ensures after { self.new ≡ spec.after sign self.old }
@@ -115,7 +115,7 @@ impl<'t, 'a> Parser<'t, 'a> {
         found
     }
 
-    #[tactic(auto, unfolding(crate::specs::aid::Parse::expect))]
+    #[tactic(auto, unfolding(crate::specs::lemmas::Parse::expect))]
     pub(crate) fn expect(&mut self, sign: Sign) -> Result<(), ReadError>
         ensures { ReadsTokens (spec.expect sign self.old) result self.new }
     {
@@ -147,7 +147,7 @@ impl<'t, 'a> Parser<'t, 'a> {
         Ok(())
     }
 
-    #[tactic(auto, unfolding(crate::specs::aid::Parse::name))]
+    #[tactic(auto, unfolding(crate::specs::lemmas::Parse::name))]
     pub(crate) fn name(&mut self) -> Result<&'a [u8], ReadError>
         ensures { ReadsAs (λ w. w.now) (spec.name self.old) result self.new }
     {
@@ -158,7 +158,7 @@ impl<'t, 'a> Parser<'t, 'a> {
         Ok(name)
     }
 
-    #[tactic(auto, unfolding(crate::specs::aid::Parse::comparison))]
+    #[tactic(auto, unfolding(crate::specs::lemmas::Parse::comparison))]
     fn comparison(&mut self) -> Result<Comparison, ReadError>
         ensures { ReadsTokens (spec.comparison self.old) result self.new }
     {
@@ -170,7 +170,7 @@ impl<'t, 'a> Parser<'t, 'a> {
     }
 
     /// The further pieces of a set.
-    #[tactic(auto, unfolding(crate::specs::aid::Parse::pieces))]
+    #[tactic(auto, unfolding(crate::specs::lemmas::Parse::pieces))]
     fn pieces(&mut self) -> Result<(), ReadError>
         ensures { ReadsTokens (spec.pieces (spec.turns self.old) self.old) result self.new }
     {
@@ -184,7 +184,7 @@ impl<'t, 'a> Parser<'t, 'a> {
         Ok(())
     }
 
-    #[tactic(auto, unfolding(crate::specs::aid::Parse::set))]
+    #[tactic(auto, unfolding(crate::specs::lemmas::Parse::set))]
     fn set(&mut self) -> Result<(), ReadError>
         ensures { ReadsTokens (spec.set self.old) result self.new }
     {
@@ -198,7 +198,7 @@ impl<'t, 'a> Parser<'t, 'a> {
         self.expect(Sign::CloseBrace)
     }
 
-    #[tactic(auto, unfolding(crate::specs::aid::Parse::compared))]
+    #[tactic(auto, unfolding(crate::specs::lemmas::Parse::compared))]
     fn compared(&mut self, depth: usize) -> Result<(), ReadError>
         ensures { ReadsTokens (spec.compared (spec.expr depth) self.old) result self.new }
     {
@@ -209,7 +209,7 @@ impl<'t, 'a> Parser<'t, 'a> {
         self.expect(Sign::CloseBrace)
     }
 
-    #[tactic(auto, unfolding(crate::specs::aid::Parse::assignment))]
+    #[tactic(auto, unfolding(crate::specs::lemmas::Parse::assignment))]
     fn assignment(&mut self, depth: usize) -> Result<(), ReadError>
         ensures { ReadsTokens (spec.assignment (spec.expr depth) self.old) result self.new }
     {
@@ -219,7 +219,7 @@ impl<'t, 'a> Parser<'t, 'a> {
         self.push(Step::Assign(target))
     }
 
-    #[tactic(auto, unfolding(crate::specs::aid::Parse::assignments))]
+    #[tactic(auto, unfolding(crate::specs::lemmas::Parse::assignments))]
     fn assignments(&mut self, depth: usize) -> Result<(), ReadError>
         ensures { ReadsTokens (spec.assignments (spec.expr depth) (spec.turns self.old) self.old) result self.new }
     {
@@ -233,7 +233,7 @@ impl<'t, 'a> Parser<'t, 'a> {
         Ok(())
     }
 
-    #[tactic(auto, unfolding(crate::specs::aid::Parse::bracket))]
+    #[tactic(auto, unfolding(crate::specs::lemmas::Parse::bracket))]
     fn bracket(&mut self, depth: usize) -> Result<(), ReadError>
         ensures { ReadsTokens (spec.bracket (spec.expr depth) self.old) result self.new }
     {
@@ -248,7 +248,7 @@ impl<'t, 'a> Parser<'t, 'a> {
     }
 
     #[cycle(rules)]
-    #[tactic(auto, unfolding(crate::specs::aid::Parse::pattern))]
+    #[tactic(auto, unfolding(crate::specs::lemmas::Parse::pattern))]
     fn pattern(&mut self, depth: usize, kind: Step<'a>) -> Result<(), ReadError>
         ensures { ReadsTokens (spec.pattern (spec.rules_to depth) (step_view kind.entry) self.old) result self.new }
     {
@@ -258,7 +258,7 @@ impl<'t, 'a> Parser<'t, 'a> {
     }
 
     #[cycle(rules)]
-    #[tactic(auto, unfolding(crate::specs::aid::Parse::brace))]
+    #[tactic(auto, unfolding(crate::specs::lemmas::Parse::brace))]
     fn brace(&mut self, depth: usize) -> Result<(), ReadError>
         ensures { ReadsTokens (spec.brace (spec.rules_to depth) (spec.expr depth) self.old) result self.new }
     {
@@ -274,7 +274,7 @@ impl<'t, 'a> Parser<'t, 'a> {
     }
 
     #[cycle(rules)]
-    #[tactic(auto, unfolding(crate::specs::aid::Parse::base))]
+    #[tactic(auto, unfolding(crate::specs::lemmas::Parse::base))]
     fn base(&mut self, depth: usize) -> Result<(), ReadError>
         ensures { ReadsTokens (spec.base (spec.rules_to depth) (spec.expr depth) self.old) result self.new }
     {
@@ -310,7 +310,7 @@ impl<'t, 'a> Parser<'t, 'a> {
     }
 
     #[cycle(rules)]
-    #[tactic(auto, unfolding(crate::specs::aid::Parse::element))]
+    #[tactic(auto, unfolding(crate::specs::lemmas::Parse::element))]
     fn element(&mut self, depth: usize) -> Result<(), ReadError>
         ensures { ReadsTokens (spec.element (spec.rules_to depth) (spec.expr depth) self.old) result self.new }
     {
@@ -322,7 +322,7 @@ impl<'t, 'a> Parser<'t, 'a> {
     }
 
     #[cycle(rules)]
-    #[tactic(auto, unfolding(crate::specs::aid::Parse::concat, crate::specs::aid::Parse::elements))]
+    #[tactic(auto, unfolding(crate::specs::lemmas::Parse::concat, crate::specs::lemmas::Parse::elements))]
     fn concat(&mut self, depth: usize) -> Result<(), ReadError>
         ensures { ReadsTokens (spec.concat (spec.rules_to depth) (spec.expr depth) self.old) result self.new }
     {
@@ -339,7 +339,7 @@ impl<'t, 'a> Parser<'t, 'a> {
 
     /// Rules that nest no deeper than `depth`.
     #[cycle(rules)]
-    #[tactic(auto, unfolding(crate::specs::aid::Parse::rules_to, crate::specs::aid::Parse::choice, crate::specs::aid::Parse::branches))]
+    #[tactic(auto, unfolding(crate::specs::lemmas::Parse::rules_to, crate::specs::lemmas::Parse::choice, crate::specs::lemmas::Parse::branches))]
     pub(crate) fn rules(&mut self, depth: usize) -> Result<(), ReadError>
         ensures { ReadsTokens (spec.rules_to depth self.old) result self.new }
     {

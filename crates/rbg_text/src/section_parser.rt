@@ -2,9 +2,9 @@
 
 ghost use Rattle.std.specs.Prelude.{◌≡◌, [], map, option_map};
 ghost use Rattle.std.specs.Str.{bytes_eq};
-ghost use Rattle.rbg_text.specs.aid.Parse.{ReadsAs, name, turns};
-ghost use Rattle.rbg_text.specs.aid.Parse as parse;
-ghost use Rattle.rbg_text.specs.aid.ParseSections as spec;
+ghost use Rattle.rbg_text.specs.lemmas.Parse.{ReadsAs, name, turns};
+ghost use Rattle.rbg_text.specs.lemmas.Parse as parse;
+ghost use Rattle.rbg_text.specs.lemmas.ParseSections as spec;
 ghost use Rattle.rbg_text.specs.Token.{Text};
 ghost use Rattle.rbg_text.specs.Syntax as syntax;
 ghost use Rattle.rbg_text.specs.View.{token_view, step_view};
@@ -52,7 +52,7 @@ impl<'a> Item<'a> for Declaration<'a> {
 
     ghost grammar = { spec.declaration };
 
-    #[tactic(auto, unfolding(crate::specs::aid::ParseSections::declaration))]
+    #[tactic(auto, unfolding(crate::specs::lemmas::ParseSections::declaration))]
     fn parse(parser: &mut Parser<'_, 'a>) -> Result<Declaration<'a>, ReadError> {
         let name = parser.name()?;
         parser.expect(Sign::OpenParen)?;
@@ -69,7 +69,7 @@ impl<'a> Item<'a> for Arrow<'a> {
 
     ghost grammar = { spec.arrow };
 
-    #[tactic(auto, unfolding(crate::specs::aid::ParseSections::arrow))]
+    #[tactic(auto, unfolding(crate::specs::lemmas::ParseSections::arrow))]
     fn parse(parser: &mut Parser<'_, 'a>) -> Result<Arrow<'a>, ReadError> {
         let label = parser.name()?;
         parser.expect(Sign::Colon)?;
@@ -79,7 +79,7 @@ impl<'a> Item<'a> for Arrow<'a> {
 }
 
 impl<'t, 'a> Parser<'t, 'a> {
-    #[tactic(auto, unfolding(crate::specs::aid::ParseSections::number))]
+    #[tactic(auto, unfolding(crate::specs::lemmas::ParseSections::number))]
     fn number(&mut self) -> Result<&'a [u8], ReadError>
         ensures { ReadsAs (λ w. w.now) (spec.number self.old) result self.new }
     {
@@ -91,7 +91,7 @@ impl<'t, 'a> Parser<'t, 'a> {
     }
 
     /// One item or more.
-    #[tactic(auto, unfolding(crate::specs::aid::ParseSections::listed, crate::specs::aid::ParseSections::items))]
+    #[tactic(auto, unfolding(crate::specs::lemmas::ParseSections::listed, crate::specs::lemmas::ParseSections::items))]
     fn listed<T: Item<'a>>(&mut self, alloc: Global) -> Result<Vec<T>, ReadError>
         ensures { ReadsAs (λ all. map T.said all.items) (spec.listed T.grammar self.old) result self.new }
     {
@@ -106,7 +106,7 @@ impl<'t, 'a> Parser<'t, 'a> {
         Ok(all)
     }
 
-    #[tactic(auto, unfolding(crate::specs::aid::ParseSections::arrows))]
+    #[tactic(auto, unfolding(crate::specs::lemmas::ParseSections::arrows))]
     fn arrows(&mut self, alloc: Global) -> Result<Vec<Arrow<'a>>, ReadError>
         ensures { ReadsAs (λ all. map arrow_view all.items) (spec.arrows self.old) result self.new }
     {
@@ -117,7 +117,7 @@ impl<'t, 'a> Parser<'t, 'a> {
         }
     }
 
-    #[tactic(auto, unfolding(crate::specs::aid::ParseSections::vertex))]
+    #[tactic(auto, unfolding(crate::specs::lemmas::ParseSections::vertex))]
     fn vertex(&mut self, alloc: Global) -> Result<Vertex<'a>, ReadError>
         ensures { ReadsAs vertex_view (spec.vertex self.old) result self.new }
     {
@@ -135,7 +135,7 @@ impl<'t, 'a> Parser<'t, 'a> {
         })
     }
 
-    #[tactic(auto, unfolding(crate::specs::aid::ParseSections::all_vertices, crate::specs::aid::ParseSections::vertices))]
+    #[tactic(auto, unfolding(crate::specs::lemmas::ParseSections::all_vertices, crate::specs::lemmas::ParseSections::vertices))]
     fn vertices(&mut self, alloc: Global) -> Result<Vec<Vertex<'a>>, ReadError>
         ensures { ReadsAs (λ all. map vertex_view all.items) (spec.all_vertices self.old) result self.new }
     {
@@ -151,7 +151,7 @@ impl<'t, 'a> Parser<'t, 'a> {
         Ok(all)
     }
 
-    #[tactic(auto, unfolding(crate::specs::aid::ParseSections::all_variables))]
+    #[tactic(auto, unfolding(crate::specs::lemmas::ParseSections::all_variables))]
     fn variables(&mut self, alloc: Global) -> Result<Vec<Declaration<'a>>, ReadError>
         ensures { ReadsAs (λ all. map declaration_view all.items) (spec.all_variables self.old) result self.new }
     {
@@ -162,7 +162,7 @@ impl<'t, 'a> Parser<'t, 'a> {
         }
     }
 
-    #[tactic(auto, unfolding(crate::specs::aid::ParseSections::all_rules))]
+    #[tactic(auto, unfolding(crate::specs::lemmas::ParseSections::all_rules))]
     fn steps(&mut self, alloc: Global) -> Result<Vec<Step<'a>>, ReadError>
         ensures { ReadsAs (λ all. map step_view all.items) (spec.all_rules self.old) result self.new }
     {
@@ -170,7 +170,7 @@ impl<'t, 'a> Parser<'t, 'a> {
         Ok(self.take_steps(alloc))
     }
 
-    #[tactic(auto, unfolding(crate::specs::aid::ParseSections::section_by))]
+    #[tactic(auto, unfolding(crate::specs::lemmas::ParseSections::section_by))]
     fn titled(&mut self, alloc: Global, title: &[u8]) -> Result<Section<'a>, ReadError>
         ensures { ReadsAs section_view (spec.section_by title.now self.old) result self.new }
     {
@@ -189,7 +189,7 @@ impl<'t, 'a> Parser<'t, 'a> {
         }
     }
 
-    #[tactic(auto, unfolding(crate::specs::aid::ParseSections::section))]
+    #[tactic(auto, unfolding(crate::specs::lemmas::ParseSections::section))]
     fn section(&mut self, alloc: Global) -> Result<Section<'a>, ReadError>
         ensures { ReadsAs section_view (spec.section self.old) result self.new }
     {
@@ -200,7 +200,7 @@ impl<'t, 'a> Parser<'t, 'a> {
     }
 
     /// All sections, up to the last token.
-    #[tactic(auto, unfolding(crate::specs::aid::ParseSections::sections))]
+    #[tactic(auto, unfolding(crate::specs::lemmas::ParseSections::sections))]
     pub(crate) fn sections(&mut self, alloc: Global) -> Result<Vec<Section<'a>>, ReadError>
         ensures { ReadsAs (λ all. map section_view all.items)
             (spec.sections (turns self.old) [] self.old) result self.new }

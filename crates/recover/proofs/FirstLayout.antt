@@ -8,12 +8,12 @@ use Rattle.page_store.specs.Store.{Store}
 use Rattle.position_pack.specs.declared.limits.TheConstants.{MAX_PACKED}
 use Rattle.rbg_game.specs.Games.{Game as TextGame}
 use Rattle.rbg_game.specs.declared.limits.TheConstants.{MAX_TEXT_BYTES}
-use Rattle.rbg_read.specs.Reading.{Reads}
+use Rattle.rbg_read.specs.Reads.{Reads}
 use Rattle.retrograde.specs.Stored.{Stored}
 use Rattle.legal_moves.specs.Compiled.{compiled_game, packing_kind}
 use Rattle.legal_moves.specs.declared.compiled.Compiled.{Compiled}
 use Rattle.game_table.specs.Tables.{ArePositions}
-use Rattle.table.specs.Fitting.{FitsTogether}
+use Rattle.table.specs.Fit.{FitsTogether}
 use Rattle.table.specs.InMemory.{stored_in}
 use Rattle.game_file.specs.Calls.{IsNotOpened, IsOpenedFile}
 use Rattle.game_file.specs.Causes.{FileOpenCause}
@@ -25,21 +25,21 @@ use Rattle.game_file.specs.declared.fault.FileFault.TheVariants as file
 use Rattle.earlier_layouts.specs.Calls.{file_of, state_of}
 use Rattle.earlier_layouts.specs.File.{FlatFile, IsBacked, IsFile, IsGame, kept_in, kept_of}
 use Rattle.earlier_layouts.specs.Held.{IsOlder, Stores}
-use Rattle.earlier_layouts.specs.Moving.{MoveCause}
-use Rattle.earlier_layouts.specs.aid.ReadLaws.{a_picture_stores_one_table}
-use Rattle.earlier_layouts.specs.aid.StoredLaws.{a_file_is_kept}
-use Rattle.earlier_layouts.specs.aid.Whole.{whole_asked}
+use Rattle.earlier_layouts.specs.MoveCauses.{MoveCause}
+use Rattle.earlier_layouts.specs.lemmas.ReadLaws.{a_picture_stores_one_table}
+use Rattle.earlier_layouts.specs.lemmas.StoredLaws.{a_file_is_kept}
+use Rattle.earlier_layouts.specs.lemmas.Whole.{whole_asked}
 use Rattle.earlier_layouts.specs.declared.game.Game.{Game}
 use Rattle.solver.specs.Faults.{file_fault}
 use Rattle.solver.specs.Held.{IsOfAGame}
-use Rattle.solver.specs.Opening.{IsOpened}
-use Rattle.solver.specs.aid.Ready.{NoGameCause}
+use Rattle.solver.specs.Opened.{IsOpened}
+use Rattle.solver.specs.lemmas.Ready.{NoGameCause}
 use Rattle.solver.specs.declared.fault.SolverFault.{SolverFault}
-use Rattle.solver.proofs.Making.{of_a_game, of_no_game}
-use Rattle.solver.proofs.Opening.{no_game_older, no_game_opened, open_cause, open_older, opened, opened_back}
+use Rattle.solver.proofs.ReadyGame.{of_a_game, of_no_game}
+use Rattle.solver.proofs.Opened.{no_game_older, no_game_opened, open_cause, open_older, opened, opened_back}
 use Rattle.tree_table.specs.Held.{StoresTrees}
-use Rattle.recover.specs.Moving.{IsUnopened, MoveOnCause}
-use Rattle.recover.specs.aid.Looking.{IsSameGame}
+use Rattle.recover.specs.Moves.{IsUnopened, MoveOnCause}
+use Rattle.recover.specs.lemmas.FirstLayout.{IsSameGame}
 
 -- whether the positions are a game's is whether the table is of one
 pub tells_game : (kept : Kept) (compiled : Compiled) (are : Bool) → Reads kept.text (compiled_game compiled) → packing_kind compiled ≡ kept.packing

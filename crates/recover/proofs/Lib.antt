@@ -1,6 +1,5 @@
-mod Reading
-mod Refusing
-mod Migrating
-pub mod Calls
+mod SyncedReads
+mod Refusals
+mod Migrations
 mod FirstLayout
 mod SecondLayout

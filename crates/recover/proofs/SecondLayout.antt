@@ -3,8 +3,8 @@ use Rattle.std.proofs.Common.{◌≡◌, ℕ, true, false, sym, ◌∙◌}
 use Rattle.game_file.specs.declared.fault.FileFault.{FileFault}
 use Rattle.game_file.specs.declared.fault.FileFault.TheVariants as file
 use Rattle.game_file.specs.State.{State}
-use Rattle.tree_file.specs.Moving.{RenewCause}
-use Rattle.recover.specs.Moving.{MoveOnCause}
+use Rattle.tree_file.specs.MoveCauses.{RenewCause}
+use Rattle.recover.specs.Moves.{MoveOnCause}
 
 -- its root alone was written
 pub by_root : (old : State) (now : ℕ) (fault : FileFault) → old.closed ≡ false → RenewCause old now fault → MoveOnCause ⊥ old now fault

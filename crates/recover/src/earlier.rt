@@ -2,8 +2,8 @@
 ghost use Rattle.std.specs.Prelude.{◌≡◌, ℕ, false, IfOk, IfErr};
 ghost use Rattle.earlier_layouts.specs.Held.{Stores, IsOlder as IsBeforeFirst};
 ghost use Rattle.game_file.specs.Kept.{Layout, Older};
-ghost use Rattle.recover.specs.Moving.{IsMovedFrom, IsNotMovedFrom, MoveOnCause};
-ghost use Rattle.tree_file.specs.Moving.{IsMoved, IsNotMoved};
+ghost use Rattle.recover.specs.Moves.{IsMovedFrom, IsNotMovedFrom, MoveOnCause};
+ghost use Rattle.tree_file.specs.MoveCauses.{IsMoved, IsNotMoved};
 
 use crate::first::opened_first;
 use earlier_layouts::{FlatTable, rebuild};

@@ -4,11 +4,11 @@ ghost use Rattle.earlier_layouts.specs.Calls.{state_of};
 ghost use Rattle.earlier_layouts.specs.File.{IsFile, kept_in, kept_of};
 ghost use Rattle.earlier_layouts.specs.Held.{Stores, IsOlder};
 ghost use Rattle.earlier_layouts.specs.InFile.{file_in};
-ghost use Rattle.recover.specs.Moving.{IsUnopened};
-ghost use Rattle.recover.specs.aid.Looking.{IsSameGame};
+ghost use Rattle.recover.specs.Moves.{IsUnopened};
+ghost use Rattle.recover.specs.lemmas.FirstLayout.{IsSameGame};
 ghost use Rattle.solver.specs.Held.{IsOfAGame};
-ghost use Rattle.solver.specs.Opening.{IsOpened};
-ghost use Rattle.solver.specs.aid.Ready.{NoGameCause};
+ghost use Rattle.solver.specs.Opened.{IsOpened};
+ghost use Rattle.solver.specs.lemmas.Ready.{NoGameCause};
 ghost use Rattle.tree_table.specs.Held.{StoresTrees};
 
 use earlier_layouts::FlatTable;

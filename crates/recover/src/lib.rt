@@ -4,13 +4,10 @@
 
 mod earlier;
 mod first;
-pub mod laws;
 mod migration;
-pub mod saved;
 
 pub use earlier::EarlierFile;
 pub use migration::{Migration, migrate};
-pub use saved::SavedTable;
 pub use solver::{Command, FileSolver, Listing, Refused, Reply, SolverFault, Units, Worked};
 
 /// The file of today's layout, on a disk.

@@ -1,8 +1,8 @@
 //! A table of an earlier layout comes into the layout that the program writes.
 ghost use Rattle.std.specs.Prelude.{◌≡◌, ◌≢◌, ◌↔◌, ℕ, true, Option, IfOk, IfErr, IsTrue};
 ghost use Rattle.game_file.specs.Kept.{Kept, in_any};
-ghost use Rattle.recover.specs.Migrating.{AreLayouts, EitherLayout, IsCurrent, IsMigrated, IsNotMigrated, MigrateCause};
-ghost use Rattle.recover.specs.aid.Steps.{IsReadSince};
+ghost use Rattle.recover.specs.Migrations.{AreLayouts, EitherLayout, IsCurrent, IsMigrated, IsNotMigrated, MigrateCause};
+ghost use Rattle.recover.specs.lemmas.Steps.{IsReadSince};
 ghost use Rattle.sector_disk.specs.Disk.{Disk};
 
 use crate::EarlierFile;

@@ -10,7 +10,7 @@ use Rattle.retrograde.specs.Audit.{AreSuccessors, AreItsMoves, HasItsMoves, Edge
 use Rattle.retrograde.specs.Sound.{IsLocallySoundAt, IsLocallySound}
 use Rattle.retrograde.specs.ByEdges.{CountsItsEdges, IsSoundByEdgesAt}
 use Rattle.retrograde.proofs.Finished.{element}
-use Rattle.retrograde.proofs.Listing.{IsOnce, once_from_pairs, pairs_from_once, all_from_contains, count_listed, length_listed, count_alike, length_alike, number_in, position_in, as_many, numbers_once, positions_once, Those, those}
+use Rattle.retrograde.proofs.NumberLists.{IsOnce, once_from_pairs, pairs_from_once, all_from_contains, count_listed, length_listed, count_alike, length_alike, number_in, position_in, as_many, numbers_once, positions_once, Those, those}
 
 module _ {P : Type 0} (graph : Graph P) (stored : Stored P) (table : IsTable stored) where
   abbrev view : View P
@@ -85,7 +85,8 @@ module _ {P : Type 0} (graph : Graph P) (stored : Stored P) (table : IsTable sto
       counted = λ r has. counts.successors r has ∙ (length_listed size test found.js found.once found.each ∙ sym many);
       left = λ r has. counts.left r has ∙ count_listed size test (λ j. not (view.processed j)) found.js found.once found.each;
       keeper = λ is.
-          let lt : i < length stored.records = let in_it : i < size = slice_get_within stored.positions i x x_at in let same : length stored.records ≡ size = table.records in omega arith in
+          let lt : i < length stored.records = let in_it : i < size = slice_get_within stored.positions i x x_at in
+          let same : length stored.records ≡ size = table.records in omega arith in
           let (r, has) = element stored.records i lt in
           let few : r.successors ≤ 1 = counts.keeper r has is in
           let same : r.successors ≡ length found.ys = counts.successors r has ∙ (length_listed size test found.js found.once found.each ∙ sym many) in
@@ -172,7 +173,8 @@ module _ {P : Type 0} (graph : Graph P) (stored : Stored P) (table : IsTable sto
           as_many stored.positions zs ks moves.are.numbers
           ∙ (sym (length_alike (length stored.positions) js ks once once' below alike) ∙ sym (as_many stored.positions ys js are.numbers))
 
-  pub moves_by_list : (ys : List P) (js : List ℕ) → AreSuccessors graph (view_of stored) x ys js → HasItsMoves graph stored i x ↔ AreItsMoves graph stored i x ys js
+  pub moves_by_list : (ys : List P) (js : List ℕ) → AreSuccessors graph (view_of stored) x ys js
+      → HasItsMoves graph stored i x ↔ AreItsMoves graph stored i x ys js
   moves_by_list ys js are = ((λ (zs, ks, moves). moves_along ys zs js ks are moves), (λ moves. (ys, js, moves)))
 
 -- what is locally sound is so by its edges, at each number

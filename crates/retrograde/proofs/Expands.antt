@@ -20,16 +20,17 @@ use Rattle.retrograde.specs.Sound.{IsLocallySound}
 use Rattle.retrograde.specs.Successors.{IsSuccessorList}
 use Rattle.retrograde.specs.Changes.{fresh_record, with_record}
 use Rattle.retrograde.specs.Expands.{Expands, IsChoice, expanded_record, won_record}
-use Rattle.retrograde.specs.aid.Expansion.{AreNoted, with_ended, with_expanded}
+use Rattle.retrograde.specs.lemmas.Expansion.{AreNoted, with_ended, with_expanded}
 use Rattle.retrograde.proofs.Finished.{element}
-use Rattle.retrograde.proofs.Lowering.{get_set_same}
-use Rattle.retrograde.proofs.Noting.{are_noted_grew}
-use Rattle.retrograde.proofs.Adding.{Adds, is_first, is_later, first_or_later, none_in_empty}
-use Rattle.retrograde.proofs.Enlarging.{Closes, closes, adds, apart, to_new, edge_is, edge_kept, edge_cases, elsewhere, expanded_new}
-use Rattle.retrograde.proofs.Finding.{new_found}
+use Rattle.retrograde.proofs.Predecessors.{get_set_same}
+use Rattle.retrograde.proofs.AdditionFrame.{are_noted_grew}
+use Rattle.retrograde.proofs.Additions.{Adds, is_first, is_later, first_or_later, none_in_empty}
+use Rattle.retrograde.proofs.SoundExpansion.{Closes, closes, adds, apart, to_new, edge_is, edge_kept, edge_cases, elsewhere, expanded_new}
+use Rattle.retrograde.proofs.ExpansionUnit.{new_found}
 
 -- where there is a successor, nothing is settled
-expanded_moving : {P : Type 0} (e n : ℕ) (ahead : Option Player) (next : Stored P) → (n ≡ 0 → ⊥) → with_expanded e n ahead next ≡ with_record next e (expanded_record n)
+expanded_moving : {P : Type 0} (e n : ℕ) (ahead : Option Player) (next : Stored P) → (n ≡ 0 → ⊥)
+    → with_expanded e n ahead next ≡ with_record next e (expanded_record n)
 expanded_moving e zero ahead next some = absurd (some refl)
 expanded_moving e (suc n) ahead next some =
     let fails : eqb (suc n) 0 ≡ false = ⊎_elim (λ (_, same). absurd (omega arith)) (λ (is, _). is) (eqb_tells (suc n) 0) in
@@ -38,7 +39,8 @@ expanded_moving e (suc n) ahead next some =
 expanded_ended : {P : Type 0} (e n : ℕ) (ahead : Option Player) (next : Stored P) → n ≡ 0 → with_expanded e n ahead next ≡ with_ended e ahead next
 expanded_ended e n ahead next none = ap (λ (k : ℕ). with_expanded e k ahead next) none
 
-module _ {P : Type 0} (cmp : P → P → Ordering) (laws : IsTotalOrder cmp) (graph : Graph P) (IsWide : P → Type 0) (stored : Stored P) (sound : IsLocallySound graph IsWide stored)
+module _ {P : Type 0} (cmp : P → P → Ordering) (laws : IsTotalOrder cmp) (graph : Graph P) (IsWide : P → Type 0) (stored : Stored P)
+    (sound : IsLocallySound graph IsWide stored)
     (x : P) (number : HasNumber (view_of stored) (expanded_count stored) x) (ys : List P) (list : IsSuccessorList cmp graph x ys)
     (forced : graph.mover x ≡ Role.Keeper → length ys ≤ 1)
     (next : Stored P) (noted : AreNoted (expanded_count stored) ys stored next) (narrow : IsWide x → ⊥) where
@@ -78,16 +80,19 @@ module _ {P : Type 0} (cmp : P → P → Ordering) (laws : IsTotalOrder cmp) (gr
     known =
         let (found, fresh, more) = new_found cmp laws graph IsWide (length next.positions) stored sound x number ys list forced next noted narrow in
         (found, fresh, closing.positions ∙ more);
-    records = ap (λ (rs : List Record). length rs) closing.records ∙ (length-set next.records e closing.written ∙ (even ∙ sym (ap (λ (ks : List P). length ks) closing.positions)));
+    records = ap (λ (rs : List Record). length rs) closing.records
+        ∙ (length-set next.records e closing.written ∙ (even ∙ sym (ap (λ (ks : List P). length ks) closing.positions)));
     edges = λ i p. (edge_cases graph stored sound.table x number ys next noted new closing i p, edge_from i p);
     kept = λ i r other has.
         elsewhere graph stored sound.table x number ys next noted new closing i other
         ∙ (adds graph stored sound.table x number ys next noted new closing).records i r has;
     fresh = fresh_at;
-    moving = λ some. moves (with_record next e (expanded_record (length ys))) (expanded_record (length ys)) stored.order (expanded_moving e (length ys) (graph.ahead x) next some) (written_at (expanded_record (length ys))) same_order;
+    moving = λ some. moves (with_record next e (expanded_record (length ys))) (expanded_record (length ys)) stored.order
+        (expanded_moving e (length ys) (graph.ahead x) next some) (written_at (expanded_record (length ys))) same_order;
     level = λ none nobody.
         moves (with_record next e (expanded_record 0)) (expanded_record 0) stored.order
-        (expanded_ended e (length ys) (graph.ahead x) next none ∙ ap (λ (o : Option Player). with_ended e o next) nobody) (written_at (expanded_record 0)) same_order;
+        (expanded_ended e (length ys) (graph.ahead x) next none ∙ ap (λ (o : Option Player). with_ended e o next) nobody)
+        (written_at (expanded_record 0)) same_order;
     won = λ w none ahead.
         moves (with_ended e (Some w) next) (won_record w) (stored.order ++ e ∷ [])
         (expanded_ended e (length ys) (graph.ahead x) next none ∙ ap (λ (o : Option Player). with_ended e o next) ahead) (written_at (won_record w))
@@ -97,11 +102,13 @@ module _ {P : Type 0} (cmp : P → P → Ordering) (laws : IsTotalOrder cmp) (gr
       all_edges : Adds e ys stored next
       all_edges = adds graph stored sound.table x number ys next noted new closing
 
-      edge_from : (i p : ℕ) → ((stored.has_edge i p ≡ true) ⊎ ((p ≡ e) × ((y : P) × Contains ys y × (slice_get new.positions i ≡ Some y)))) → new.has_edge i p ≡ true
+      edge_from : (i p : ℕ) → ((stored.has_edge i p ≡ true) ⊎ ((p ≡ e) × ((y : P) × Contains ys y × (slice_get new.positions i ≡ Some y))))
+          → new.has_edge i p ≡ true
       edge_from i p (inl before) = edge_kept graph stored sound.table x number ys next noted new closing i p before
       edge_from i p (inr (from, (y, here, at))) =
           let (j, at_j, edge) = all_edges.all y here in
-          let same : i ≡ j = apart graph stored sound.table x number ys next noted new closing i j y at (to_new graph stored sound.table x number ys next noted new closing j y at_j) in
+          let same : i ≡ j = apart graph stored sound.table x number ys next noted new closing i j y at
+          (to_new graph stored sound.table x number ys next noted new closing j y at_j) in
           edge_is graph stored sound.table x number ys next noted new closing i p
           ∙ subst (λ (k : ℕ). next.has_edge k p ≡ true) (sym same) (subst (λ (k : ℕ). next.has_edge j k ≡ true) (sym from) edge)
 
@@ -140,7 +147,8 @@ choice {P = P} cmp laws graph x (y ∷ z ∷ ys) list more keeper = record {
 -- Where it has no more than one, there is no choice.
 pub no_choice : {P : Type 0} (cmp : P → P → Ordering) (graph : Graph P) (x : P) (ys : List P) → IsSuccessorList cmp graph x ys
     → (graph.mover x ≡ Role.Keeper → length ys ≤ 1) → IsChoice graph x → ⊥
-no_choice {P = P} cmp graph x ys list forced choice = go ys (forced choice.keeper) ((list.each choice.one).1 choice.to_one) ((list.each choice.other).1 choice.to_other)
+no_choice {P = P} cmp graph x ys list forced choice = go ys (forced choice.keeper) ((list.each choice.one).1 choice.to_one)
+    ((list.each choice.other).1 choice.to_other)
   where
     go : (zs : List P) → length zs ≤ 1 → Contains zs choice.one → Contains zs choice.other → ⊥
     go [] few here there = none_in_empty choice.one here

@@ -18,7 +18,8 @@ full_from_some (Some a) some = (a, refl)
 
 pub end_value_some : (o : Option Player) (w : Player) (n : ℕ) → end_value o ≡ Some (w, n) → (o ≡ Some w) × (n ≡ 0)
 end_value_some None w n e = cc
-end_value_some (Some v) w n e = let p : (v, 0) ≡ (w, n) = same_Some (v, 0) (w, n) e in (ap (λ (q : Player × ℕ). Some q.0) p, ap (λ (q : Player × ℕ). q.1) (sym p))
+end_value_some (Some v) w n e = let p : (v, 0) ≡ (w, n) = same_Some (v, 0) (w, n) e in
+    (ap (λ (q : Player × ℕ). Some q.0) p, ap (λ (q : Player × ℕ). q.1) (sym p))
 
 module _ {P : Type 0} (graph : Graph P) (view : View P)
     (coherent : IsCoherent view) (moves : KnowsMoves graph view) (order : ProcessesInOrder view) (local : HasLocalValues graph view) where

@@ -54,7 +54,8 @@ module _ {P : Type 0} (graph : Graph P) (view : View P) (right : IsRight graph v
               let same : v ≡ w = one_winner graph v w k n y theirs.within (within y move) in
               let ours : WonIn graph w k y = subst (λ (u : Player). WonIn graph u k y) same theirs in
               let le : k ≤ n = ours.least n (within y move) in
-              let apart : k ≡ n → ⊥ = λ equal. none y move (subst (λ (l : ℕ). HasValue view y w l) equal (subst (λ (u : Player). HasValue view y u k) same value)) in
+              let apart : k ≡ n → ⊥ = λ equal. none y move
+              (subst (λ (l : ℕ). HasValue view y w l) equal (subst (λ (u : Player). HasValue view y u k) same value)) in
               let lt : k < n = omega arith in
               (k, lt, ours.within)
 

@@ -13,7 +13,7 @@ use Rattle.retrograde.specs.Local.{IsProcessedFor, HasNoOwnWin, AllLeadTo, IsMov
 use Rattle.retrograde.specs.Steps.{IsLocallyRight, IsDue, ProcessesNext}
 use Rattle.retrograde.proofs.Finished.{none_or_some, is_some_at, element}
 use Rattle.retrograde.proofs.Local.{full_from_some}
-use Rattle.retrograde.proofs.Counting.{true_or_false}
+use Rattle.retrograde.proofs.CountLemmas.{true_or_false}
 
 -- of three players two are the same
 third : (u v w : Player) → (u ≡ v → ⊥) → (u ≡ w → ⊥) → v ≡ w
@@ -215,7 +215,8 @@ module _ {P : Type 0} (graph : Graph P) (old new : View P) (s : ℕ) (w : Player
               (was_processed_for u m y there)
       settled_still had has (still_open none_own some_left value) = cc
 
-      go : IsLocalValue graph old x (old.value i) → (old.value i ≡ None) ⊎ ((value : Player × ℕ) × (old.value i ≡ Some value)) → IsLocalValue graph new x (new.value i)
+      go : IsLocalValue graph old x (old.value i) → (old.value i ≡ None) ⊎ ((value : Player × ℕ) × (old.value i ≡ Some value))
+          → IsLocalValue graph new x (new.value i)
       go (at_end ended value) (inl none) =
           ⊎_elim
           (λ due. absurd (let ((z, _, move), _) = due.0 in ended z move))
@@ -301,7 +302,8 @@ module _ {P : Type 0} (graph : Graph P) (old new : View P) (s : ℕ) (w : Player
     rising = λ i j v u m n is a is_not b.
         let le : m ≤ d = no_farther_than_s i v m is a in
         let waits : old.processed j ≡ false =
-        ⊎_elim (λ yes'. let now : new.processed j ≡ true = (step.processed j).1 (inl yes') in let no_way : true ≡ false = sym now ∙ is_not in cc) (λ e. e) (true_or_false (old.processed j)) in
+        ⊎_elim (λ yes'. let now : new.processed j ≡ true = (step.processed j).1 (inl yes') in let no_way : true ≡ false = sym now
+        ∙ is_not in cc) (λ e. e) (true_or_false (old.processed j)) in
         ⊎_elim
         (λ had. let ge : d ≤ n = step.nearest j u n waits had in omega arith)
         (λ fresh. let e : n ≡ suc d = fresh.1 in omega arith)

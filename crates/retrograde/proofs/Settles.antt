@@ -11,12 +11,12 @@ use Rattle.retrograde.specs.declared.records.Record.{Record}
 use Rattle.retrograde.specs.Graph.{Graph}
 use Rattle.retrograde.specs.Stored.{Stored, expanded_count}
 use Rattle.retrograde.specs.Sound.{IsLocallySound}
-use Rattle.retrograde.specs.Processing.{is_due, processed_record, with_processed_alone, IsNextSettled}
-use Rattle.retrograde.specs.aid.Processing.{lower_with, lower_at, lowered_below, with_processed}
+use Rattle.retrograde.specs.Process.{is_due, processed_record, with_processed_alone, IsNextSettled}
+use Rattle.retrograde.specs.lemmas.ProcessSteps.{lower_with, lower_at, lowered_below, with_processed}
 use Rattle.retrograde.specs.Settles.{IsSettledBy, Settles}
-use Rattle.retrograde.proofs.Adding.{none_in_empty}
-use Rattle.retrograde.proofs.Lowering.{AreLowered, below_keeps}
-use Rattle.retrograde.proofs.Diminishing.{falls_all}
+use Rattle.retrograde.proofs.Additions.{none_in_empty}
+use Rattle.retrograde.proofs.Predecessors.{AreLowered, below_keeps}
+use Rattle.retrograde.proofs.SoundProcess.{falls_all}
 
 module _ {P : Type 0} (graph : Graph P) (s : ℕ) (w : Player) (d : ℕ) (old : Stored P) where
   -- the order, once the predecessors below n are seen to
@@ -84,7 +84,8 @@ module _ {P : Type 0} (graph : Graph P) (s : ℕ) (w : Player) (d : ℕ) (old : 
       keeps : AreLowered graph w d n old now
       keeps = below_keeps graph w d s n old
 
-      due_at : (x : P) (r : Record) → slice_get now.positions n ≡ Some x → slice_get now.records n ≡ Some r → old.has_edge s n ≡ true → (b : Bool) → is_due (graph.mover x) w r ≡ b
+      due_at : (x : P) (r : Record) → slice_get now.positions n ≡ Some x → slice_get now.records n ≡ Some r → old.has_edge s n ≡ true
+          → (b : Bool) → is_due (graph.mover x) w r ≡ b
           → AreNewly n now.order → AreNewly (suc n) (cond b (now.order ++ n ∷ []) now.order)
       due_at x r at has edge true due was = more n now.order (record {
         edge = edge;
@@ -97,20 +98,24 @@ module _ {P : Type 0} (graph : Graph P) (s : ℕ) (w : Player) (d : ℕ) (old : 
       due_at x r at has edge false due was = past n now.order (λ it.
           let x_is : it.position ≡ x = same_Some it.position x (sym it.at ∙ (ap (λ (ks : List P). slice_get ks n) (sym keeps.positions) ∙ at)) in
           let r_is : it.kept ≡ r = same_Some it.kept r (sym it.has ∙ (sym (keeps.later n (omega arith)) ∙ has)) in
-          let is : is_due (graph.mover x) w r ≡ true = subst (λ (q : Record). is_due (graph.mover x) w q ≡ true) r_is (subst (λ (y : P). is_due (graph.mover y) w it.kept ≡ true) x_is it.due) in
+          let is : is_due (graph.mover x) w r ≡ true = subst (λ (q : Record). is_due (graph.mover x) w q ≡ true) r_is
+          (subst (λ (y : P). is_due (graph.mover y) w it.kept ≡ true) x_is it.due) in
           cc) was
 
       at : (o : Option P) (q : Option Record) → slice_get now.positions n ≡ o → slice_get now.records n ≡ q → old.has_edge s n ≡ true
           → AreNewly n now.order → AreNewly (suc n) (lower_with graph w d n now o q).order
-      at None q none' has edge was = past n now.order (λ it. let no_way : None ≡ Some it.position = sym none' ∙ (ap (λ (ks : List P). slice_get ks n) keeps.positions ∙ it.at) in cc) was
-      at (Some x) None at' none' edge was = past n now.order (λ it. let no_way : None ≡ Some it.kept = sym none' ∙ (keeps.later n (omega arith) ∙ it.has) in cc) was
+      at None q none' has edge was = past n now.order
+          (λ it. let no_way : None ≡ Some it.position = sym none' ∙ (ap (λ (ks : List P). slice_get ks n) keeps.positions ∙ it.at) in cc) was
+      at (Some x) None at' none' edge was = past n now.order
+          (λ it. let no_way : None ≡ Some it.kept = sym none' ∙ (keeps.later n (omega arith) ∙ it.has) in cc) was
       at (Some x) (Some r) at' has edge was = due_at x r at' has edge (is_due (graph.mover x) w r) refl was
 
       go : (b : Bool) → old.has_edge s n ≡ b → AreNewly n now.order → AreNewly (suc n) (cond b (lower_at graph w d n now) now).order
       go false is was = past n now.order (λ it. let no_way : true ≡ false = sym it.edge ∙ is in cc) was
       go true is was = at (slice_get now.positions n) (slice_get now.records n) refl refl is was
 
-module _ {P : Type 0} (graph : Graph P) (IsWide : P → Type 0) (old : Stored P) (sound : IsLocallySound graph IsWide old) (full : expanded_count old ≡ length old.positions)
+module _ {P : Type 0} (graph : Graph P) (IsWide : P → Type 0) (old : Stored P) (sound : IsLocallySound graph IsWide old)
+    (full : expanded_count old ≡ length old.positions)
     (s : ℕ) (r : Record) (w : Player) (next : IsNextSettled old s r w) where
   abbrev base : Stored P
   base = with_processed_alone s r old

@@ -17,7 +17,7 @@ use Rattle.retrograde.specs.Sound.{IsLocallySound}
 use Rattle.retrograde.specs.ByEdges.{CountsItsEdges, IsSoundByEdgesAt}
 use Rattle.retrograde.proofs.Finished.{is_some_at, element}
 use Rattle.retrograde.proofs.Local.{right, full_from_some, end_value_some}
-use Rattle.retrograde.proofs.Counting.{counted, some_counted, only_one}
+use Rattle.retrograde.proofs.CountLemmas.{counted, some_counted, only_one}
 use Rattle.retrograde.proofs.ByEdges.{by_edges}
 
 -- a processed record has a winner
@@ -71,7 +71,8 @@ module _ {P : Type 0} (graph : Graph P) (IsWide : P → Type 0) (stored : Stored
         let (x, number, at) = at_number i (valued_known i some) in
         ⊎_elim
         (λ within. within)
-        (λ later. let none : view.value i ≡ None = at.waiting later in let some_none : IsSome {T = Player × ℕ} None = subst (λ (o : Option (Player × ℕ)). IsSome o) none some in cc)
+        (λ later. let none : view.value i ≡ None = at.waiting later in
+        let some_none : IsSome {T = Player × ℕ} None = subst (λ (o : Option (Player × ℕ)). IsSome o) none some in cc)
         (cases_lt i (expanded_count stored));
     processed = λ i is. processed_has_value (slice_get stored.records i) is (sound.table.states i);
   }
@@ -197,7 +198,8 @@ module _ {P : Type 0} (graph : Graph P) (IsWide : P → Type 0) (stored : Stored
       let ended : IsEnded graph x = λ y move.
       let (j, y_at, edge) = edges.each y move in
       let j_in : j < length stored.positions = slice_get_within stored.positions j y y_at in
-      let some : 0 < count_below (length stored.positions) (λ l. stored.has_edge l i) = counted (λ l. stored.has_edge l i) (length stored.positions) j j_in edge in
+      let some : 0 < count_below (length stored.positions) (λ l. stored.has_edge l i) = counted (λ l. stored.has_edge l i)
+      (length stored.positions) j j_in edge in
       omega arith in
       at_end ended ((by_edges graph IsWide stored sound i x number).ended within ended))
       (cases_lt 0 (count_below (length stored.positions) (λ l. stored.has_edge l i)))

@@ -64,13 +64,15 @@ module _ {P : Type 0} (cmp : P → P → Ordering) (graph : Graph P) where
         let same : y ≡ x = same_Some y x (sym (number_after a b u works i y at) ∙ number) in
         subst (λ (z : P). HasNumber a i z) same at
 
-    pub works_along : (a b c : View P) (m n : ℕ) → UnitsOfWork cmp graph IsWide limit a m b → UnitsOfWork cmp graph IsWide limit b n c → UnitsOfWork cmp graph IsWide limit a (m + n) c
+    pub works_along : (a b c : View P) (m n : ℕ) → UnitsOfWork cmp graph IsWide limit a m b → UnitsOfWork cmp graph IsWide limit b n c
+        → UnitsOfWork cmp graph IsWide limit a (m + n) c
     works_along a b c m n first second = record {
       before = first.before;
       right = second.right;
       room = second.room;
       more = first.more + second.more;
-      expanded = let p : b.expanded ≡ a.expanded + first.more = first.expanded in let q : c.expanded ≡ b.expanded + second.more = second.expanded in omega arith;
+      expanded = let p : b.expanded ≡ a.expanded + first.more = first.expanded in
+          let q : c.expanded ≡ b.expanded + second.more = second.expanded in omega arith;
       grows =
           grows_along first.more second.more a.expanded a.known b.known c.known first.grows
           (subst (λ (e : ℕ). Grows cmp graph second.more e b.known c.known) first.expanded second.grows);

@@ -8,12 +8,12 @@ pub mod Audit
 pub mod Sound
 pub mod ByEdges
 pub mod Verdicts
-pub mod aid
+pub mod lemmas
 pub mod Successors
 pub mod Edges
 pub mod Changes
 pub mod Steps
-pub mod Processing
+pub mod Process
 pub mod Units
 pub mod Expands
 pub mod Settles

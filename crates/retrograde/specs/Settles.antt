@@ -4,7 +4,7 @@ use Rattle.rbg_game.specs.declared.roles.Player.{Player}
 use Rattle.retrograde.specs.declared.records.Record.{Record}
 use Rattle.retrograde.specs.Graph.{Graph}
 use Rattle.retrograde.specs.Stored.{Stored, HasRecord}
-use Rattle.retrograde.specs.Processing.{is_due, lowered, IsNextSettled, with_processed_alone}
+use Rattle.retrograde.specs.Process.{is_due, lowered, IsNextSettled, with_processed_alone}
 
 -- a move leads from i to s, which is processed for w, and i is due: it isn't settled, and w has the turn there or s was
 -- the last that was left

@@ -1,7 +1,7 @@
 //! The gate: the low bit of its first byte picks one of the two root slots.
 ghost use Rattle.std.specs.Prelude.{◌≡◌, ◌≢◌, ◌<◌, OnOk, IfOk, IfErr, IsTrue};
 ghost use Rattle.sector_disk.specs.Disk.{size, sector, GoesOn, LeavesOnly, MayLeave, AllSynced, HasCause, IsCounted};
-ghost use Rattle.sector_disk.specs.aid.Disk.{KeepsThroughout};
+ghost use Rattle.sector_disk.specs.lemmas.Disk.{KeepsThroughout};
 ghost use Rattle.root_pair.specs.Root.{slot_by, spare_by, turned};
 
 use crate::RootFault;

@@ -2,7 +2,7 @@
 ghost use Rattle.std.specs.Prelude.{◌≡◌, ◌<◌, nat_lt, ℕ, true, false, None, length, slice_index_or, if◌then◌else◌, IfOk};
 ghost use Rattle.sector_disk.specs.Disk.{Picture};
 ghost use Rattle.sector_disk.specs.Past.{before, synced_after, synced_by, end_by, end_after, lasting_of};
-ghost use Rattle.sector_disk.specs.aid.Log.{IsAsAtSync, IsLastSyncOf, last_by};
+ghost use Rattle.sector_disk.specs.lemmas.Log.{IsAsAtSync, IsLastSyncOf, last_by};
 
 use std::alloc::{AllocError, Global};
 

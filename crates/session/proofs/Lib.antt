@@ -1,8 +1,8 @@
-mod Auditing
-mod Bringing
-mod Cutting
-mod Saying
-mod Telling
+mod Audits
+mod Brought
+mod CutLines
+mod Requests
+mod ToldTexts
 mod UnderWay
 mod InputLemmas
 mod MovesOnInput

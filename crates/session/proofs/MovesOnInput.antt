@@ -6,17 +6,17 @@ use Rattle.std.specs.Io.KnownBytes.{Appends, IsAtEnd}
 use Rattle.std.proofs.lemmas.Bool.{cases_lt}
 use Rattle.std.proofs.lemmas.List.{length-append}
 use Rattle.rbg_game.specs.Games.{Game}
-use Rattle.session_lines.specs.Answers.{TellsMovesAt, TellsRefusal, refusal_line, status_of}
+use Rattle.session_lines.specs.Answers.{TellsMovesAt, TellsRefusal}
 use Rattle.session_lines.specs.Asked.{IsBare}
 use Rattle.session_lines.specs.Parts.{AppendsPart, IsWritten}
-use Rattle.session_lines.specs.declared.refused.Refused.TheVariants.{BadPosition, OutOfMemory}
-use Rattle.session_lines.proofs.Appending.{appends_then, appends_nothing}
+use Rattle.solver.specs.declared.fault.SolverFault.TheVariants.{BadPosition, OutOfMemory}
+use Rattle.session_lines.proofs.Appends.{appends_then, appends_nothing}
 use Rattle.session_lines.proofs.PartLemmas.{part_before, part_behind, whole_part, written_as}
 use Rattle.session.specs.Cut.{IsCutInto}
 use Rattle.session.specs.ByLine.{AnswersPosition, AnswersPositions, AnswersBehind, AreMovesByLine, ArePositionsUnderWay, EndByLine, GoesOnByLine, HasTaken, TellsNoMemory, TellsPosition}
 use Rattle.session.specs.declared.position_line.PositionLine.{PositionLine}
 use Rattle.session.specs.declared.position_line.TheConstants.{MOST_BYTES}
-use Rattle.session.proofs.Cutting.{another_byte, another_line, more_bytes, no_lines, nothing_waits}
+use Rattle.session.proofs.CutLines.{another_byte, another_line, more_bytes, no_lines, nothing_waits}
 
 true_is_not_false : {A : Type 0} → true ≡ false → A
 true_is_not_false e = absurd (no e)

@@ -20,8 +20,8 @@ use Rattle.session.specs.Commands.{IsPrinted, refused as refused_for}
 use Rattle.session.specs.Cut.{HasRead}
 use Rattle.session.specs.Seen.{Seen, Wrote, moment_at}
 use Rattle.session.specs.Sessions.{SessionState, NeedsNoListings, LineOutcome, OutcomeOf, AnswersLines, IsUnderWay, Continues, EndsWithin, IsSession, WithEnd, AsItIs, status_at_end}
-use Rattle.session.proofs.Cutting.{another_byte, another_line, more_bytes, no_lines, nothing_waits}
-use Rattle.session.proofs.Telling.{tells_nothing, tells_then, tells_part_then, tells_more, tells_part_more}
+use Rattle.session.proofs.CutLines.{another_byte, another_line, more_bytes, no_lines, nothing_waits}
+use Rattle.session.proofs.ToldTexts.{tells_nothing, tells_then, tells_part_then, tells_more, tells_part_more}
 
 -- an honest disk stays so, whatever is done for a line
 module _ (Stores : ℕ → Layout) where

@@ -2,10 +2,10 @@
 use Rattle.std.specs.Prelude.{◌≡◌, ◌≢◌, ◌<◌, ◌≤◌, ℕ, false, List, [], ◌∷◌, ◌++◌, length, Option, None, Some, IsTrue}
 use Rattle.std.specs.Io.KnownBytes.{Appends, IsAtEnd}
 use Rattle.rbg_game.specs.Games.{Game}
-use Rattle.session_lines.specs.Answers.{TellsMovesAt, TellsRefusal, refusal_line}
+use Rattle.session_lines.specs.Answers.{TellsMovesAt, TellsRefusal}
 use Rattle.session_lines.specs.Asked.{IsBare}
 use Rattle.session_lines.specs.Parts.{IsWritten}
-use Rattle.session_lines.specs.declared.refused.Refused.TheVariants.{BadPosition, OutOfMemory}
+use Rattle.solver.specs.declared.fault.SolverFault.TheVariants.{BadPosition, OutOfMemory}
 use Rattle.session.specs.Cut.{IsCutInto, IsOneLine}
 use Rattle.session.specs.declared.position_line.PositionLine.{PositionLine}
 use Rattle.session.specs.declared.position_line.TheConstants.{MOST_BYTES}

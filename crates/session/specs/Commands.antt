@@ -6,11 +6,11 @@ use Rattle.rbg_game.specs.Goals.{points_of}
 use Rattle.retrograde.specs.declared.records.Counts.{Counts}
 use Rattle.recover.specs.declared.migration.Migration.{Migration}
 use Rattle.recover.specs.declared.migration.Migration.TheVariants.{Migrated, Current}
-use Rattle.recover.specs.Migrating.{EitherLayout, IsCurrent, IsMigrated, IsNotMigrated, MigrateCause}
+use Rattle.recover.specs.Migrations.{EitherLayout, IsCurrent, IsMigrated, IsNotMigrated, MigrateCause}
 use Rattle.audit.specs.declared.verdict.Verdict.{Verdict}
 use Rattle.audit.specs.declared.verdict.Verdict.TheVariants.{Right, Wrong}
 use Rattle.game_file.specs.Calls.{IsAsked, IsNotCreated, IsNotOpened}
-use Rattle.game_file.specs.Growing.{IsGrownFile, IsNotGrown}
+use Rattle.game_file.specs.Growth.{IsGrownFile, IsNotGrown}
 use Rattle.game_file.specs.Kept.{Layout, text_kept}
 use Rattle.game_file.specs.State.{State}
 use Rattle.solver.specs.declared.fault.SolverFault.{SolverFault}
@@ -18,13 +18,14 @@ use Rattle.solver.specs.declared.fault.SolverFault.TheVariants as fault
 use Rattle.solver.specs.declared.replies.Reply.{Reply}
 use Rattle.solver.specs.declared.replies.Reply.TheVariants as reply
 use Rattle.solver.specs.Audits.{HasVerdict, IsSoInGame, AuditCause}
-use Rattle.solver.specs.Growing.{GrowthCause, IsGrowth}
+use Rattle.solver.specs.Growth.{GrowthCause, IsGrowth}
 use Rattle.solver.specs.Machine.{load}
-use Rattle.solver.specs.Opening.{IsCreated, IsOpened, OpenCause, CreateCause}
+use Rattle.solver.specs.Opened.{IsCreated, IsOpened, OpenCause, CreateCause}
 use Rattle.solver.specs.Queries.{Tells}
 use Rattle.solver.specs.Runs.{IsTurnWithCause}
 use Rattle.session_lines.specs.Verdicts.{IsVerdictLine}
-use Rattle.session_lines.specs.Answered.{status_of_fault, status_of_reply}
+use Rattle.session_lines.specs.Answered.{status_of_reply}
+use Rattle.solver.specs.Faults.{status_of}
 use Rattle.session_lines.specs.Parts.{AppendsPart}
 use Rattle.session_lines.specs.Told.{fault_line, IsReplyLine}
 use Rattle.session.specs.declared.commands.FileCommand.{FileCommand}
@@ -68,7 +69,7 @@ word_of_migration Current = codes "current"
 -- the exit status that belongs to it
 abbrev pub status_of_came : Came → ℕ
 status_of_came made = 0
-status_of_came (refused why) = status_of_fault why
+status_of_came (refused why) = status_of why
 status_of_came (replied said) = status_of_reply said
 status_of_came (told_text text) = 0
 status_of_came (audited verdict counts) = status_of_verdict verdict

@@ -26,7 +26,7 @@ pub record Wrote (before after : Seen) (text : List ℕ) (moments : List Moment)
   pub wrote : Appends before.written after.written text
   pub noted : after.moments ≡ before.moments ++ moments
 
--- the same where the output failed: a part of the text was written, from its start on
+-- what was written where the output failed: a part of the text, from its start on
 pub record WrotePart (before after : Seen) (text : List ℕ) (moments : List Moment) : Type 0 where
   pub wrote : AppendsPart before.written after.written text
   pub noted : after.moments ≡ before.moments ++ moments

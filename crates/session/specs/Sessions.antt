@@ -6,7 +6,7 @@ use Rattle.game_file.specs.Kept.{Layout}
 use Rattle.game_file.specs.State.{State}
 use Rattle.retrograde.specs.Stored.{Stored}
 use Rattle.sector_disk.specs.Disk.{Disk}
-use Rattle.solver.specs.Opening.{IsOpened}
+use Rattle.solver.specs.Opened.{IsOpened}
 use Rattle.solver.specs.declared.fault.SolverFault.{SolverFault}
 use Rattle.solver.specs.declared.fault.SolverFault.TheVariants.{OutOfMemory}
 use Rattle.solver.specs.declared.listing.Listing.{Listing}
@@ -59,7 +59,7 @@ first_state file lines = record { file = file; listings = first_listings lines }
 abbrev pub WithEnd : List ℕ → List ℕ → Type 0
 WithEnd = IsBare
 
--- the same of the line with which the input ends
+-- the line with which the input ends has all its bytes
 abbrev pub AsItIs : List ℕ → List ℕ → Type 0
 AsItIs bytes line = line ≡ bytes
 

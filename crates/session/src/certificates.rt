@@ -9,7 +9,6 @@ use certificate::{CertificateFault, MAX_CERTIFICATE_BYTES, Refusal, check_to, te
 use certificate_writer::{Progress, Written, write_certificate};
 use file_disk::FileDisk;
 use recover::TableFile;
-use session_lines::refused::Refused;
 use solver::{FileSolver, SolverFault};
 use std::alloc::Global;
 use std::fs;
@@ -26,7 +25,7 @@ pub fn certify_file(rt: &HostRuntime, alloc: Global, name: &str, number: u32) ->
     };
     let disk = match disk_over(rt, alloc, name, file) {
         Ok(disk) => disk,
-        Err((status, _)) => return status,
+        Err(outcome) => return outcome.status,
     };
     let mut progress = Telling {
         out: rt.stderr(),
@@ -71,7 +70,7 @@ fn certificate_on<P: Progress>(
 /// Writes a certificate, and says how large it is.
 fn put_written(rt: &HostRuntime, alloc: Global, name: &str, written: &Written) -> u8 {
     let Ok(mut out) = BufWriter::new(alloc, io::writer(rt)) else {
-        return status_of_refused(rt, Refused::OutOfMemory);
+        return status_of_refused(rt, SolverFault::OutOfMemory);
     };
     if out.write_all(&written.bytes).is_err() || out.flush().is_err() {
         return 4;
@@ -87,7 +86,7 @@ fn put_written(rt: &HostRuntime, alloc: Global, name: &str, written: &Written) -
 /// Says why there is no certificate.
 fn put_refused(rt: &HostRuntime, alloc: Global, name: &str, fault: SolverFault) -> u8 {
     let Ok(mut out) = BufWriter::new(alloc, io::writer(rt)) else {
-        return status_of_refused(rt, Refused::OutOfMemory);
+        return status_of_refused(rt, SolverFault::OutOfMemory);
     };
     let outcome = said_refused(&mut out, fault);
     tell_refusal(rt, name, fault);
@@ -118,7 +117,7 @@ fn check_bytes(
     text: Option<&[u8]>,
 ) -> u8 {
     let Ok(mut out) = BufWriter::new(alloc, io::writer(rt)) else {
-        return status_of_refused(rt, Refused::OutOfMemory);
+        return status_of_refused(rt, SolverFault::OutOfMemory);
     };
     let answer = check_to(alloc, bytes, text, &mut out);
     if answer.status == 1
@@ -145,10 +144,10 @@ fn bytes_of_file(rt: &HostRuntime, alloc: Global, name: &str) -> Result<Vec<u8>,
     match read_bytes(rt, name, &mut bytes) {
         Ok(()) => Ok(bytes),
         Err(error) if error.kind() == ErrorKind::OutOfMemory => {
-            Err(status_of_refused(rt, Refused::OutOfMemory))
+            Err(status_of_refused(rt, SolverFault::OutOfMemory))
         }
         Err(_) => {
-            let status = status_of_refused(rt, Refused::Disk);
+            let status = status_of_refused(rt, SolverFault::Disk);
             tell(rt, format_args!("{name}: the file cannot be read"));
             Err(status)
         }

@@ -13,7 +13,6 @@ use rbg_read::read::read_game;
 use recover::{FirstFile, SecondFile, TableFile};
 use session_lines::advice::advice;
 use session_lines::moments::Moments;
-use session_lines::refused::Refused;
 use solver::SolverFault;
 use std::alloc::{AllocError, Global};
 use std::fs::{self, File};
@@ -53,13 +52,13 @@ fn create_over(rt: &HostRuntime, alloc: Global, name: &str, mut file: File, size
     match begins_as_a_table(&mut file) {
         Ok(true) => return refused_table(rt, name),
         Ok(false) => {}
-        Err(error) => return refused_file(rt, name, &error, TO_MAKE),
+        Err(error) => return refused_file(rt, name, &error, TO_MAKE).status,
     }
     if size.pages < MIN_PAGES {
-        return refused_for(rt, name, Refused::TooSmall, SolverFault::TooSmall);
+        return refused_for(rt, name, SolverFault::TooSmall);
     }
     if let Err(error) = writable(rt, name) {
-        return refused_file(rt, name, &error, TO_MAKE);
+        return refused_file(rt, name, &error, TO_MAKE).status;
     }
     let folder = match folder_of(rt, name) {
         Ok(folder) => folder,
@@ -72,7 +71,7 @@ fn create_over(rt: &HostRuntime, alloc: Global, name: &str, mut file: File, size
 /// Makes the empty table in a new file, which goes again if no table came to be in it.
 fn create_new(rt: &HostRuntime, alloc: Global, name: &str, size: Size) -> u8 {
     if size.pages < MIN_PAGES {
-        return refused_for(rt, name, Refused::TooSmall, SolverFault::TooSmall);
+        return refused_for(rt, name, SolverFault::TooSmall);
     }
     let folder = match folder_of(rt, name) {
         Ok(folder) => folder,
@@ -102,7 +101,7 @@ fn made(
 ) -> Outcome {
     match prepared(&mut file, folder, size) {
         Ok(()) => command_on_file(rt, alloc, name, file, FileCommand::Create),
-        Err(error) => undone(refused_file(rt, name, &error, TO_GROW), SolverFault::Disk),
+        Err(error) => refused_file(rt, name, &error, TO_GROW),
     }
 }
 
@@ -116,16 +115,15 @@ pub fn load_file(
 ) -> u8 {
     let mut text = Vec::new(alloc);
     if let Err(error) = read_start(rt, game, &mut text) {
-        return refused_file(rt, game, &error, TO_READ);
+        return refused_file(rt, game, &error, TO_READ).status;
     }
     let explained: Result<Vec<u8>, AllocError> = text.clone();
     let outcome = match opened(rt, name, Purpose::Change) {
         Ok(file) => command_on_file(rt, alloc, name, file, FileCommand::Load(text, goal)),
         Err(why) => return refused_opening(rt, name, why, TO_CHANGE),
     };
-    if let Some(SolverFault::Game(_)) = outcome.refused
+    if let Some(SolverFault::Game(fault)) = outcome.refused
         && let Ok(text) = explained
-        && let Err(fault) = read_game(alloc, &text)
     {
         tell_game_fault(rt, alloc, game, &text, fault);
     }
@@ -148,10 +146,10 @@ pub fn migrate_file(rt: &HostRuntime, alloc: Global, name: &str) -> u8 {
     };
     let disk = match disk_over(rt, alloc, name, file) {
         Ok(disk) => disk,
-        Err((status, _)) => return status,
+        Err(outcome) => return outcome.status,
     };
     let Ok(mut out) = BufWriter::new(alloc, io::writer(rt)) else {
-        return status_of_refused(rt, Refused::OutOfMemory);
+        return status_of_refused(rt, SolverFault::OutOfMemory);
     };
     let (outcome, _disk) = migrate_on::<
         FileDisk,
@@ -180,28 +178,26 @@ pub fn grow_file(rt: &HostRuntime, alloc: Global, name: &str, size: Size) -> u8 
         Err(why) => return refused_opening(rt, name, why, TO_CHANGE),
     };
     if let Err(error) = prepared_behind(&mut file, size) {
-        return refused_file(rt, name, &error, TO_GROW);
+        return refused_file(rt, name, &error, TO_GROW).status;
     }
     command_on_file(rt, alloc, name, file, FileCommand::Grow(size.pages)).status
 }
 
-/// The disk over an open file; or the status, once it was said why there is none.
+/// The disk over an open file; or what came, once it was said why there is none.
 pub fn disk_over(
     rt: &HostRuntime,
     alloc: Global,
     name: &str,
     file: File,
-) -> Result<FileDisk, (u8, SolverFault)> {
+) -> Result<FileDisk, Outcome> {
     match FileDisk::new(alloc, file) {
         Ok(disk) => Ok(disk),
         Err(FileRefused::NoLength) => {
-            let status = refused_for(rt, name, Refused::Disk, SolverFault::Disk);
-            Err((status, SolverFault::Disk))
+            let outcome = undone(rt, SolverFault::Disk);
+            tell_refusal(rt, name, SolverFault::Disk);
+            Err(outcome)
         }
-        Err(FileRefused::OutOfMemory) => {
-            let status = status_of_refused(rt, Refused::OutOfMemory);
-            Err((status, SolverFault::OutOfMemory))
-        }
+        Err(FileRefused::OutOfMemory) => Err(undone(rt, SolverFault::OutOfMemory)),
     }
 }
 
@@ -216,11 +212,10 @@ fn command_on_file(
 ) -> Outcome {
     let disk = match disk_over(rt, alloc, name, file) {
         Ok(disk) => disk,
-        Err((status, fault)) => return undone(status, fault),
+        Err(outcome) => return outcome,
     };
     let Ok(mut out) = BufWriter::new(alloc, io::writer(rt)) else {
-        let status = status_of_refused(rt, Refused::OutOfMemory);
-        return undone(status, SolverFault::OutOfMemory);
+        return undone(rt, SolverFault::OutOfMemory);
     };
     let is_growth = matches!(&command, FileCommand::Grow(_));
     let (outcome, _disk) = command_on::<TableFile<FileDisk>, _>(
@@ -262,10 +257,10 @@ fn is_game(rt: &HostRuntime, alloc: Global, name: &str) -> bool {
     read_start(rt, name, &mut text).is_ok() && read_game(alloc, &text).is_ok()
 }
 
-/// What came of a command that was refused before a table was looked for, where all is said.
-fn undone(status: u8, fault: SolverFault) -> Outcome {
+/// Says that a command is refused before a table was looked for, and gives what came.
+fn undone(rt: &HostRuntime, fault: SolverFault) -> Outcome {
     Outcome {
-        status,
+        status: status_of_refused(rt, fault),
         refused: Some(fault),
     }
 }
@@ -294,7 +289,7 @@ fn tell_loss(rt: &HostRuntime, name: &str, file: &File) {
 /// Says that a table's file is not open, and gives the status.
 pub fn refused_opening(rt: &HostRuntime, name: &str, why: Unopened, advice: &str) -> u8 {
     match why {
-        Unopened::Failed(error) => refused_file(rt, name, &error, advice),
+        Unopened::Failed(error) => refused_file(rt, name, &error, advice).status,
         Unopened::OwnOutput => 4,
         Unopened::UnknownOutput => {
             // where the terminal is, the table is not
@@ -326,22 +321,22 @@ fn refused_folder(rt: &HostRuntime, name: &str, error: &io::Error) -> u8 {
         ErrorKind::PermissionDenied => TO_KEEP,
         _ => TO_MAKE,
     };
-    refused_file(rt, name, error, advice)
+    refused_file(rt, name, error, advice).status
 }
 
-/// Says that a file cannot be used and what to do, and gives the status.
-fn refused_file(rt: &HostRuntime, name: &str, error: &io::Error, advice: &str) -> u8 {
+/// Says that a file cannot be used and what to do, and gives what came.
+fn refused_file(rt: &HostRuntime, name: &str, error: &io::Error, advice: &str) -> Outcome {
     if error.kind() == ErrorKind::OutOfMemory {
-        return status_of_refused(rt, Refused::OutOfMemory);
+        return undone(rt, SolverFault::OutOfMemory);
     }
-    let status = status_of_refused(rt, Refused::Disk);
+    let outcome = undone(rt, SolverFault::Disk);
     tell(rt, format_args!("{name}: {error}: {advice}"));
-    status
+    outcome
 }
 
 /// Says that a file begins as a table does, so that none is made in it, and gives the status.
 fn refused_table(rt: &HostRuntime, name: &str) -> u8 {
-    let status = status_of_refused(rt, Refused::AlreadyATable);
+    let status = status_of_refused(rt, SolverFault::AlreadyATable);
     let advice = advice(SolverFault::AlreadyATable);
     tell(
         rt,
@@ -351,8 +346,8 @@ fn refused_table(rt: &HostRuntime, name: &str) -> u8 {
 }
 
 /// Says that a command on a file is refused and what that means, and gives the status.
-fn refused_for(rt: &HostRuntime, name: &str, refused: Refused, fault: SolverFault) -> u8 {
-    let status = status_of_refused(rt, refused);
+fn refused_for(rt: &HostRuntime, name: &str, fault: SolverFault) -> u8 {
+    let status = status_of_refused(rt, fault);
     tell_refusal(rt, name, fault);
     status
 }

@@ -4,8 +4,8 @@ use crate::moves_by_line::moves_by_line;
 use crate::program::{read_start, status_of_refused, tell, tell_game_fault};
 use session_lines::actions::actions_to;
 use session_lines::moves::{moves_at, moves_to};
-use session_lines::refused::Refused;
 use session_lines::rulebook::Rulebook;
+use solver::SolverFault;
 use std::alloc::Global;
 use std::io::{self, BufWriter, ErrorKind};
 
@@ -19,7 +19,7 @@ pub fn moves_of_game(rt: &HostRuntime, alloc: Global, game: &str, at: Option<&st
         Err(status) => return status,
     };
     let Ok(mut out) = BufWriter::new(alloc, io::writer(rt)) else {
-        return status_of_refused(rt, Refused::OutOfMemory);
+        return status_of_refused(rt, SolverFault::OutOfMemory);
     };
     let status = match at {
         Some(FROM_INPUT) => return moves_of_input(rt, alloc, game, &text),
@@ -39,13 +39,13 @@ pub fn actions_of_game(rt: &HostRuntime, alloc: Global, game: &str) -> u8 {
         Err(status) => return status,
     };
     let Ok(mut out) = BufWriter::new(alloc, io::writer(rt)) else {
-        return status_of_refused(rt, Refused::OutOfMemory);
+        return status_of_refused(rt, SolverFault::OutOfMemory);
     };
     let status = actions_to(alloc, &text, &mut out);
     if status == 1
-        && let Err(refused) = Rulebook::read(alloc, &text)
+        && let Err(fault) = Rulebook::read(alloc, &text)
     {
-        tell_refused_game(rt, alloc, game, &text, refused);
+        tell_refused_game(rt, alloc, game, &text, fault);
     }
     status
 }
@@ -56,10 +56,10 @@ pub fn text_of_game(rt: &HostRuntime, alloc: Global, game: &str) -> Result<Vec<u
     match read_start(rt, game, &mut text) {
         Ok(()) => Ok(text),
         Err(error) if error.kind() == ErrorKind::OutOfMemory => {
-            Err(status_of_refused(rt, Refused::OutOfMemory))
+            Err(status_of_refused(rt, SolverFault::OutOfMemory))
         }
         Err(_) => {
-            let status = status_of_refused(rt, Refused::Disk);
+            let status = status_of_refused(rt, SolverFault::Disk);
             tell(rt, format_args!("{game}: the file cannot be read"));
             Err(status)
         }
@@ -82,14 +82,14 @@ fn tell_why(rt: &HostRuntime, alloc: Global, game: &str, text: &[u8], at: Option
                 ),
             );
         }
-        (Err(refused), _) => tell_refused_game(rt, alloc, game, text, refused),
+        (Err(fault), _) => tell_refused_game(rt, alloc, game, text, fault),
     }
 }
 
 /// Says on standard error why the text is no game, where it is none.
-fn tell_refused_game(rt: &HostRuntime, alloc: Global, game: &str, text: &[u8], refused: Refused) {
-    if let Refused::Game(fault) = refused {
-        tell_game_fault(rt, alloc, game, text, fault);
+fn tell_refused_game(rt: &HostRuntime, alloc: Global, game: &str, text: &[u8], fault: SolverFault) {
+    if let SolverFault::Game(why) = fault {
+        tell_game_fault(rt, alloc, game, text, why);
     }
 }
 
@@ -97,14 +97,14 @@ fn tell_refused_game(rt: &HostRuntime, alloc: Global, game: &str, text: &[u8], r
 fn moves_of_input(rt: &HostRuntime, alloc: Global, game: &str, text: &[u8]) -> u8 {
     let book = match Rulebook::read(alloc, text) {
         Ok(book) => book,
-        Err(refused) => {
-            let status = status_of_refused(rt, refused);
-            tell_refused_game(rt, alloc, game, text, refused);
+        Err(fault) => {
+            let status = status_of_refused(rt, fault);
+            tell_refused_game(rt, alloc, game, text, fault);
             return status;
         }
     };
     let Ok(mut out) = BufWriter::new(alloc, io::writer(rt)) else {
-        return status_of_refused(rt, Refused::OutOfMemory);
+        return status_of_refused(rt, SolverFault::OutOfMemory);
     };
     moves_by_line(alloc, &book, &mut rt.stdin(), &mut out)
 }

@@ -21,6 +21,4 @@ pub mod texts;
 pub mod told;
 
 pub use program::run;
-pub use session_lines::{
-    actions, input, moments, moves, questions, refused, replies, rulebook, verdicts,
-};
+pub use session_lines::{actions, input, moments, moves, questions, replies, rulebook, verdicts};

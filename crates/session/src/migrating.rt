@@ -1,6 +1,6 @@
 //! The command that brings a table into today's layout.
 ghost use Rattle.std.specs.Prelude.{◌≡◌, ◌∷◌, ◌++◌, []};
-ghost use Rattle.recover.specs.Migrating.{AreLayouts};
+ghost use Rattle.recover.specs.Migrations.{AreLayouts};
 ghost use Rattle.session_lines.specs.Moments.{noted_in};
 ghost use Rattle.session.specs.Commands.{Came, came_of, IsBrought, IsPrinted, refusal_of};
 

@@ -10,8 +10,8 @@ ghost use Rattle.session.specs.ByLine.{HasTaken, TellsPosition};
 use crate::position_line::PositionLine;
 use session_lines::puts::put_line;
 use session_lines::refusals::write_refused;
-use session_lines::refused::Refused;
 use session_lines::rulebook::Rulebook;
+use solver::SolverFault;
 use std::alloc::Global;
 use std::io::{ErrorKind, Read, Write};
 
@@ -79,7 +79,7 @@ fn put_byte<W: Write>(
     if byte != b'\n' {
         return match line.push(byte) {
             Ok(()) => None,
-            Err(_) => Some(write_refused(Refused::OutOfMemory, out)),
+            Err(_) => Some(write_refused(SolverFault::OutOfMemory, out)),
         };
     }
     let status = put_moves_of(alloc, book, line, out);
@@ -122,7 +122,7 @@ fn put_answer<W: Write>(alloc: Global, book: &Rulebook, line: &PositionLine, out
         → IsWritten (TellsPosition (compiled_game book.now) bytes) (W.contents out.old) (W.contents out.new) result }
 {
     if line.is_too_long {
-        return write_refused(Refused::BadPosition, out);
+        return write_refused(SolverFault::BadPosition, out);
     }
     book.put_moves_at(alloc, without_return(line.bytes.as_slice()), out)
 }

@@ -13,7 +13,7 @@ use rbg_game::limits::MAX_TEXT_BYTES;
 use rbg_read::fault::GameFault;
 use rbg_read::numbered::lines::{LineColumn, line_column};
 use root_pair::MAGIC;
-use session_lines::refused::Refused;
+use solver::SolverFault;
 use std::alloc::Global;
 use std::fmt::Display;
 use std::fs;
@@ -27,7 +27,7 @@ const READ_LIMIT: u64 = MAX_TEXT_BYTES as u64 + 1;
 /// the program was started with one of them closed.
 pub fn run(rt: &HostRuntime) -> u8 {
     let Ok(streams) = Streams::hold(rt) else {
-        return status_of_refused(rt, Refused::Disk);
+        return status_of_refused(rt, SolverFault::Disk);
     };
     let status = run_words(rt);
     streams.let_go();
@@ -39,7 +39,7 @@ fn run_words(rt: &HostRuntime) -> u8 {
     let words = match given_words(rt, alloc) {
         Ok(words) => words,
         Err(error) if error.kind() == io::ErrorKind::OutOfMemory => {
-            return status_of_refused(rt, Refused::OutOfMemory);
+            return status_of_refused(rt, SolverFault::OutOfMemory);
         }
         Err(_) => {
             tell(
@@ -102,10 +102,10 @@ fn given_words(rt: &HostRuntime, alloc: Global) -> io::Result<Vec<String>> {
 }
 
 /// Says `refused` with the code on standard output.
-pub fn status_of_refused(rt: &HostRuntime, refused: Refused) -> u8 {
-    let code = refused.code();
+pub fn status_of_refused(rt: &HostRuntime, fault: SolverFault) -> u8 {
+    let code = fault.code();
     match println!(rt; "refused {code}") {
-        Ok(()) => refused.status(),
+        Ok(()) => fault.status(),
         Err(_) => 4,
     }
 }

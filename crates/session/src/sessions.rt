@@ -7,7 +7,7 @@ use crate::program::status_of_refused;
 use file_disk::FileDisk;
 use recover::TableFile;
 use session_lines::moments::Moments;
-use session_lines::refused::Refused;
+use solver::SolverFault;
 use std::alloc::Global;
 use std::io::{self, BufWriter};
 
@@ -16,7 +16,7 @@ pub fn session_of_file(rt: &HostRuntime, alloc: Global, name: &str, is_quiet: bo
     match opened(rt, name, Purpose::Change) {
         Ok(file) => match disk_over(rt, alloc, name, file) {
             Ok(disk) => answer(rt, alloc, disk, Lines::Session, is_quiet),
-            Err((status, _)) => status,
+            Err(outcome) => outcome.status,
         },
         Err(why) => refused_opening(rt, name, why, TO_CHANGE),
     }
@@ -28,7 +28,7 @@ pub fn look_at_file(rt: &HostRuntime, alloc: Global, name: &str, is_quiet: bool)
     match opened(rt, name, Purpose::Ask) {
         Ok(file) => match disk_over(rt, alloc, name, file) {
             Ok(disk) => answer(rt, alloc, disk, Lines::Look, is_quiet),
-            Err((status, _)) => status,
+            Err(outcome) => outcome.status,
         },
         Err(why) => refused_opening(rt, name, why, TO_READ),
     }
@@ -37,7 +37,7 @@ pub fn look_at_file(rt: &HostRuntime, alloc: Global, name: &str, is_quiet: bool)
 /// Answers the lines of standard input on standard output.
 fn answer(rt: &HostRuntime, alloc: Global, disk: FileDisk, lines: Lines, is_quiet: bool) -> u8 {
     let Ok(mut out) = BufWriter::new(alloc, io::writer(rt)) else {
-        return status_of_refused(rt, Refused::OutOfMemory);
+        return status_of_refused(rt, SolverFault::OutOfMemory);
     };
     let mut input = rt.stdin();
     let (status, _disk) = if is_quiet {

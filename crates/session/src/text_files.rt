@@ -9,7 +9,7 @@ use crate::told::Outcome;
 use file_disk::FileDisk;
 use recover::TableFile;
 use session_lines::moments::Moments;
-use session_lines::refused::Refused;
+use solver::SolverFault;
 use std::alloc::Global;
 use std::io::{self, BufWriter};
 
@@ -20,7 +20,7 @@ pub fn text_of_file(rt: &HostRuntime, alloc: Global, name: &str) -> u8 {
         Err(status) => return status,
     };
     let Ok(mut out) = BufWriter::new(alloc, io::writer(rt)) else {
-        return status_of_refused(rt, Refused::OutOfMemory);
+        return status_of_refused(rt, SolverFault::OutOfMemory);
     };
     let (outcome, _disk) = text_on::<TableFile<FileDisk>, _>(alloc, disk, &mut out);
     status_of(rt, alloc, name, outcome)
@@ -37,7 +37,7 @@ pub fn audit_file_of(rt: &HostRuntime, alloc: Global, name: &str, game: &str) ->
         Err(status) => return status,
     };
     let Ok(mut out) = BufWriter::new(alloc, io::writer(rt)) else {
-        return status_of_refused(rt, Refused::OutOfMemory);
+        return status_of_refused(rt, SolverFault::OutOfMemory);
     };
     let (outcome, _disk) = audit_of::<TableFile<FileDisk>, _>(
         alloc,
@@ -57,7 +57,7 @@ fn asked_disk(rt: &HostRuntime, alloc: Global, name: &str) -> Result<FileDisk, u
     };
     match disk_over(rt, alloc, name, file) {
         Ok(disk) => Ok(disk),
-        Err((status, _)) => Err(status),
+        Err(outcome) => Err(outcome.status),
     }
 }
 

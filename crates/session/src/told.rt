@@ -9,7 +9,7 @@ ghost use Rattle.session.specs.Commands.{refusal_in, refusal_of, status_of_came,
 use audit::Verdict;
 use recover::Migration;
 use retrograde::Counts;
-use session_lines::puts::{put_line, put_refused, put_reply, status_of};
+use session_lines::puts::{put_line, put_refused, put_reply};
 use session_lines::verdicts::put_verdict;
 use solver::{Reply, SolverFault};
 use std::io::{self, Write};
@@ -96,7 +96,7 @@ fn status_of_told(told: Told) -> u8
 {
     match told {
         Told::Made | Told::Brought(_) | Told::Grown => 0,
-        Told::Refused(fault) => status_of(fault),
+        Told::Refused(fault) => fault.status(),
         Told::Replied(reply) => status_of_reply(reply),
         Told::Audited(verdict, _) => status_of_verdict(verdict),
         Told::Another => 1,
@@ -118,7 +118,7 @@ fn status_of_reply(reply: Reply) -> u8
     ensures { result ≡ status_of_reply reply }
 {
     match reply {
-        Reply::Refused(fault) => status_of(fault),
+        Reply::Refused(fault) => fault.status(),
         Reply::Loaded | Reply::Worked(_, _) => 0,
     }
 }

@@ -9,19 +9,22 @@ use Rattle.rbg_game.specs.declared.position.Position.{Position}
 use Rattle.legal_moves.specs.Moves.{HasNoMove}
 use Rattle.legal_moves.specs.Listed.{ShownMove, AreMoves, IsShownMove}
 use Rattle.position_pack.specs.Bytes.{bytes_of}
-use Rattle.session_lines.specs.aid.Lines.{HasPosition, SaysMoves}
-use Rattle.session_lines.specs.Answers.{status_of, refusal_line, IsListing, IsUntold, TellsMoves, TellsRefusal}
+use Rattle.session_lines.specs.lemmas.Lines.{HasPosition, SaysMoves}
+use Rattle.session_lines.specs.Answers.{IsListing, IsUntold, TellsMoves, TellsRefusal}
 use Rattle.session_lines.specs.Parts.{AppendsPart, IsWritten}
-use Rattle.session_lines.specs.aid.Stops.{IsStoppedLine, IsStopped}
+use Rattle.session_lines.specs.lemmas.Stops.{IsStoppedLine, IsStopped}
 use Rattle.session_lines.specs.declared.move_lines.Stop.{Stop}
 use Rattle.session_lines.specs.declared.move_lines.Stop.TheVariants as stop
-use Rattle.session_lines.specs.declared.refused.Refused.{Refused}
-use Rattle.legal_moves.proofs.ReachLemmas.{position_of}
-use Rattle.session_lines.proofs.Appending.{appends_then}
+use Rattle.session_lines.specs.Told.{fault_line}
+use Rattle.solver.specs.Faults.{status_of}
+use Rattle.solver.specs.declared.fault.SolverFault.{SolverFault}
+use Rattle.legal_moves.proofs.answers.ReachLemmas.{position_of}
+use Rattle.session_lines.proofs.Appends.{appends_then}
 use Rattle.session_lines.proofs.PartLemmas.{part_behind}
 
 -- each successor that is listed is a position of the game
-pub positions_of : (game : Game) (at : Position) (moves : List ShownMove) → IsSoundGame game → IsPositionOf game at → All (IsShownMove game at) moves → All (HasPosition game) moves
+pub positions_of : (game : Game) (at : Position) (moves : List ShownMove) → IsSoundGame game → IsPositionOf game at
+    → All (IsShownMove game at) moves → All (HasPosition game) moves
 positions_of game at moves sound is words k d lt =
     let shown = words k d lt in
     (shown.0, position_of game at shown.0 sound is (shown.1, shown.2.leads), shown.2.bytes_are)
@@ -31,7 +34,8 @@ no_moves game at moves are none next successor =
     let there = subst (λ ms. Contains (map (λ m. m.next) ms) (bytes_of next)) none (are.successors.all (bytes_of next) (next, refl, successor)) in
     absurd (omega (arith, there.1))
 
-pub answer_of : (game : Game) (at : Position) (moves : List ShownMove) (written : List ℕ) → IsListing game at moves → SaysMoves game moves written → TellsMoves game at 0 written
+pub answer_of : (game : Game) (at : Position) (moves : List ShownMove) (written : List ℕ) → IsListing game at moves
+    → SaysMoves game moves written → TellsMoves game at 0 written
 answer_of game at moves written listing says = elim says [
   | inl none ↦ subst (TellsMoves game at 0) (sym none.1) (TellsMoves.ended (no_moves game at moves listing.moves_are none.0))
   | inr some ↦ TellsMoves.listed moves written listing some.0 some.1
@@ -41,7 +45,8 @@ pub on_ok : {X E : Type 0} {P Q : Type 0} (r : Result X E) → (P → Q) → OnO
 on_ok (Ok x) f h = f h
 on_ok (Err e) f h = tt
 
-pub stopped_of : {X : Type 0} (game : Game) (at : Position) (moves : List ShownMove) (Written Part : List ℕ → Type 0) (r : Result X Stop) → IsListing game at moves
+pub stopped_of : {X : Type 0} (game : Game) (at : Position) (moves : List ShownMove) (Written Part : List ℕ → Type 0) (r : Result X Stop)
+    → IsListing game at moves
     → IfErr r (IsStoppedLine game moves (SaysMoves game moves) Written Part) → IfErr r (IsStopped game at Written Part)
 stopped_of game at moves Written Part (Ok x) listing h = tt
 stopped_of game at moves Written Part (Err stop.Output) listing h = (h.0, answer_of game at moves h.0 listing h.1, h.2)
@@ -49,13 +54,14 @@ stopped_of game at moves Written Part (Err (stop.Refused why)) listing h =
     (h.1.1, subst (λ w. IsUntold game at w h.1.1) (sym h.0) (inr (moves, h.1.0, listing, h.1.2)), h.1.3)
 
 -- a refusal behind the lines that were written
-pub refused_behind : {before mid after : Option (List ℕ)} (game : Game) (at : Position) (why : Refused) (lines : List ℕ) (status : ℕ) → IsUntold game at why lines
+pub refused_behind : {before mid after : Option (List ℕ)} (game : Game) (at : Position) (why : SolverFault) (lines : List ℕ) (status : ℕ)
+    → IsUntold game at why lines
     → Appends before mid lines → IsWritten (TellsRefusal why) mid after status → IsWritten (TellsMoves game at) before after status
 refused_behind {before} {mid} {after} game at why lines status is wrote (IsWritten.whole text told appends) =
-    IsWritten.whole (lines ++ refusal_line why) (subst (λ n. TellsMoves game at n (lines ++ refusal_line why)) (sym told.0) (TellsMoves.untold why lines is))
-    (appends_then before mid after lines (refusal_line why) wrote (subst (Appends mid after) told.1 appends))
+    IsWritten.whole (lines ++ fault_line why) (subst (λ n. TellsMoves game at n (lines ++ fault_line why)) (sym told.0) (TellsMoves.untold why lines is))
+    (appends_then before mid after lines (fault_line why) wrote (subst (Appends mid after) told.1 appends))
 refused_behind {before} {mid} {after} game at why lines status is wrote (IsWritten.part own text told part four) =
-    IsWritten.part (status_of why) (lines ++ refusal_line why) (TellsMoves.untold why lines is)
+    IsWritten.part (status_of why) (lines ++ fault_line why) (TellsMoves.untold why lines is)
     (part_behind lines wrote (subst (AppendsPart mid after) told.1 part)) four
 
 pub nothing_left : {X : Type 0} (xs : List X) → length xs ≡ 0 → xs ≡ []

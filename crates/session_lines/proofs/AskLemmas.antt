@@ -5,7 +5,7 @@ use Rattle.std.proofs.lemmas.List.{get_or-take, get_or-drop, get_or_default, len
 use Rattle.session_lines.specs.declared.input.Asked.{Asked}
 use Rattle.session_lines.specs.declared.input.Asked.TheVariants.{Nothing, Usage}
 use Rattle.session_lines.specs.Asked.{EndsWord, IsBlank, BeginsWith, SayWords, AsksInWords}
-use Rattle.session_lines.specs.aid.Words.{IsFirstWord, IsTrimmed, IsSplit, SaysBehind, many, few}
+use Rattle.session_lines.specs.lemmas.Words.{IsFirstWord, IsTrimmed, IsSplit, SaysBehind, many, few}
 
 -- ---- words of a line
 

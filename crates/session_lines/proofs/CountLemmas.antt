@@ -16,5 +16,6 @@ counts_end counts = elim (eqb_tells counts.expanded counts.known) [
 ]
 
 -- the line of work with these counts behind it
-pub work_line : (units : ℕ) {counts : Counts} {line : List ℕ} → IsCountsLine counts line → IsWorkLine units counts (codes "units " ++ (decimal units ++ 32 ∷ line))
+pub work_line : (units : ℕ) {counts : Counts} {line : List ℕ} → IsCountsLine counts line
+    → IsWorkLine units counts (codes "units " ++ (decimal units ++ 32 ∷ line))
 work_line units {counts} {line} are = record { counts_line = line; counts_are = are; line_is = refl }

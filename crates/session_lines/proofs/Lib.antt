@@ -1,15 +1,15 @@
-pub mod Appending
+pub mod Appends
 pub mod PartLemmas
 mod KnownLemmas
 mod LineLemmas
 mod WritingLemmas
 mod AnswerLemmas
 mod Asked
-mod PrintTelling
+mod Printed
 mod CountLemmas
-mod Listing
+mod ActionLists
 mod OneReply
 mod AskLemmas
-mod Telling
-mod Replying
+mod Told
+mod ReplyLines
 mod Plain

@@ -11,7 +11,7 @@ use Rattle.position_pack.specs.Packings.{Form, form_of, IsPacked}
 use Rattle.position_pack.proofs.ShapeLemmas.{fits, is_position}
 use Rattle.legal_moves.specs.Listed.{ShownMove}
 use Rattle.session_lines.specs.Lines.{IsLine, line_of}
-use Rattle.session_lines.specs.aid.Lines.{HasPosition}
+use Rattle.session_lines.specs.lemmas.Lines.{HasPosition}
 
 none : ShownMove
 none = record { next = []; shown = [] }

@@ -5,7 +5,7 @@ use Rattle.std.proofs.lemmas.List.{take-append-drop, take_all, length-take-le, l
 use Rattle.std.specs.Prelude.{Result, Ok, Err, OnErr, OnOk}
 use Rattle.std.specs.Io.KnownBytes.{Appends, Keeps}
 use Rattle.session_lines.specs.Parts.{AppendsPart, IsWritten}
-use Rattle.session_lines.proofs.Appending.{appends_then, appends_nothing, appends_and_keeps}
+use Rattle.session_lines.proofs.Appends.{appends_then, appends_nothing, appends_and_keeps}
 
 -- nothing of it
 pub no_part : (before : Option (List ℕ)) (text : List ℕ) → AppendsPart before before text
@@ -42,7 +42,8 @@ part_behind {before} {mid} {after} first wrote of = record {
 pub taken_part : (before after : Option (List ℕ)) (text : List ℕ) (n : ℕ) → Appends before after (take n text) → AppendsPart before after text
 taken_part before after text n wrote = record { part = take n text; left = drop n text; text_is = sym (take-append-drop n text); appended = wrote }
 
-pub taken_kept : (before mid after : Option (List ℕ)) (text : List ℕ) (n : ℕ) → Appends before mid (take n text) → Keeps mid after → AppendsPart before after text
+pub taken_kept : (before mid after : Option (List ℕ)) (text : List ℕ) (n : ℕ) → Appends before mid (take n text) → Keeps mid after
+    → AppendsPart before after text
 taken_kept before mid after text n wrote kept = taken_part before after text n (appends_and_keeps before mid after (take n text) wrote kept)
 
 -- what is left behind the first bytes
@@ -64,7 +65,8 @@ taken_more before mid after text n m enough few wrote then = (
         ∙ ap (λ k. take (k + m) (take n text ++ drop n text)) (length-take-le n text enough) ∙ ap (take (n + m)) (take-append-drop n text)
 
 -- the same of a text in two pieces
-pub pieces_before : {before after : Option (List ℕ)} (one two more : List ℕ) → AppendsPart before after (one ++ two) → AppendsPart before after (one ++ (two ++ more))
+pub pieces_before : {before after : Option (List ℕ)} (one two more : List ℕ) → AppendsPart before after (one ++ two)
+    → AppendsPart before after (one ++ (two ++ more))
 pieces_before {before} {after} one two more of = subst (AppendsPart before after) (append_assoc one two more) (part_before more of)
 
 pub pieces_behind : {before mid after : Option (List ℕ)} {text : List ℕ} (one two : List ℕ) → Appends before mid (one ++ two) → AppendsPart mid after text
@@ -88,10 +90,12 @@ on_ok_by (Err e) leads it = tt
 -- all of a text in two pieces, and then another
 pub pieces_then : (before mid after : Option (List ℕ)) (one two text : List ℕ) → Appends before mid (one ++ two) → Appends mid after text
     → Appends before after (one ++ (two ++ text))
-pieces_then before mid after one two text wrote then = subst (Appends before after) (append_assoc one two text) (appends_then before mid after (one ++ two) text wrote then)
+pieces_then before mid after one two text wrote then = subst (Appends before after) (append_assoc one two text)
+    (appends_then before mid after (one ++ two) text wrote then)
 
 -- a line of which a part was written, and one that follows from it
-pub line_part : {X E : Type 0} (r : Result X E) (Is : List ℕ → Type 0) {before after : Option (List ℕ)} {line : List ℕ} → Is line → AppendsPart before after line
+pub line_part : {X E : Type 0} (r : Result X E) (Is : List ℕ → Type 0) {before after : Option (List ℕ)} {line : List ℕ} → Is line
+    → AppendsPart before after line
     → OnErr r ((text : List ℕ) × Is text × AppendsPart before after text)
 line_part r Is {line = line} is part = on_err r (line, is, part)
 

@@ -7,7 +7,8 @@ use Rattle.game_file.specs.State.{State}
 use Rattle.solver.specs.Queries.{Tells}
 use Rattle.solver.specs.declared.fault.SolverFault.{SolverFault}
 use Rattle.solver.specs.declared.replies.Units.{Units}
-use Rattle.session_lines.specs.Answered.{IsAnsweredOrRefused, IsNoCall, IsReplied, IsTextOrRefusal, status_of_fault}
+use Rattle.session_lines.specs.Answered.{IsAnsweredOrRefused, IsNoCall, IsReplied, IsTextOrRefusal}
+use Rattle.solver.specs.Faults.{status_of}
 use Rattle.session_lines.specs.Asked.{in_look}
 use Rattle.session_lines.specs.Told.{fault_line}
 use Rattle.session_lines.specs.declared.input.Asked.{Asked}
@@ -18,7 +19,7 @@ use Rattle.session_lines.specs.declared.input.Question.{Question}
 -- a text that was found, or a refusal with its cause
 pub text_or_refusal : (P : List ℕ → Type 0) (Cause : SolverFault → Type 0) (r : Result (Vec ℕ) SolverFault) → IfOk r (λ text. P text.items) → IfErr r Cause
     → (status : ℕ) (line : List ℕ) → IsTextOrRefusal r status line
-    → ((status ≡ 0) × P line) ⊎ ((why : SolverFault) × (status ≡ status_of_fault why) × (line ≡ fault_line why) × Cause why)
+    → ((status ≡ 0) × P line) ⊎ ((why : SolverFault) × (status ≡ status_of why) × (line ≡ fault_line why) × Cause why)
 text_or_refusal P Cause (Ok text) tells cause status line (same, is) = inl (same, subst P (sym is) tells)
 text_or_refusal P Cause (Err why) tells cause status line (same, is) = inr (why, same, is, cause)
 

@@ -6,15 +6,16 @@ use Rattle.rbg_game.specs.Games.{Game}
 use Rattle.legal_moves.specs.Listed.{ShownMove}
 use Rattle.session_lines.specs.Lines.{IsLine, AreLines, line_of}
 use Rattle.session_lines.specs.Parts.{AppendsPart}
-use Rattle.session_lines.specs.aid.Lines.{HasPosition}
-use Rattle.session_lines.specs.aid.Stops.{IsStoppedLine}
+use Rattle.session_lines.specs.lemmas.Lines.{HasPosition}
+use Rattle.session_lines.specs.lemmas.Stops.{IsStoppedLine}
 use Rattle.session_lines.specs.declared.move_lines.Stop.{Stop}
 use Rattle.session_lines.specs.declared.move_lines.Stop.TheVariants.{Output, Refused}
-use Rattle.session_lines.specs.declared.refused.Refused.TheVariants.{OutOfMemory}
+use Rattle.solver.specs.declared.fault.SolverFault.TheVariants.{OutOfMemory}
 use Rattle.session_lines.proofs.PartLemmas.{part_before, part_behind}
 
 -- one line more
-pub one_more_line : (game : Game) (moves : List ShownMove) (k : ℕ) (written line : List ℕ) → k < length moves → AreLines game (take k moves) written → IfSome (slice_get moves k) (λ m. IsLine game m line)
+pub one_more_line : (game : Game) (moves : List ShownMove) (k : ℕ) (written line : List ℕ) → k < length moves
+    → AreLines game (take k moves) written → IfSome (slice_get moves k) (λ m. IsLine game m line)
     → AreLines game (take (k + 1) moves) (written ++ line)
 one_more_line game [] k written line lt are is = absurd (omega (arith, lt))
 one_more_line game (m ∷ moves) zero written line lt are is = (line, [], ap (λ w. w ++ line) are ∙ sym (append-nil line), is, refl)
@@ -66,7 +67,8 @@ unwritten game moves Says Written Part (Err e) h part = rw h part
 
 -- what says the lines says the moves
 pub stopped_says : {X : Type 0} (game : Game) (moves : List ShownMove) (Says Others Written Part : List ℕ → Type 0) (r : Result X Stop)
-    → ((text : List ℕ) → Says text → Others text) → IfErr r (IsStoppedLine game moves Says Written Part) → IfErr r (IsStoppedLine game moves Others Written Part)
+    → ((text : List ℕ) → Says text → Others text) → IfErr r (IsStoppedLine game moves Says Written Part)
+    → IfErr r (IsStoppedLine game moves Others Written Part)
 stopped_says game moves Says Others Written Part (Ok x) leads h = tt
 stopped_says game moves Says Others Written Part (Err (Refused why)) leads h = h
 stopped_says game moves Says Others Written Part (Err Output) leads h = (h.0, leads h.0 h.1, h.2)

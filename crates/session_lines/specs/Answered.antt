@@ -4,7 +4,6 @@ use Rattle.std.specs.Global.{Vec}
 use Rattle.std.specs.List.{flat_map}
 use Rattle.std.specs.Fmt.{decimal}
 use Rattle.rbg_game.specs.Games.{Game}
-use Rattle.rbg_read.specs.declared.fault.GameFault.TheVariants as game_fault
 use Rattle.retrograde.specs.Changes.{counts_of}
 use Rattle.retrograde.specs.declared.records.Counts.{Counts}
 use Rattle.best_line.specs.declared.answers.Value.{Value as Worth}
@@ -15,6 +14,7 @@ use Rattle.best_line.specs.declared.known.KnownMoves.{KnownMoves}
 use Rattle.game_file.specs.Calls.{IsAsked}
 use Rattle.game_file.specs.Kept.{Kept, Layout, text_kept}
 use Rattle.game_file.specs.State.{State}
+use Rattle.solver.specs.Faults.{status_of}
 use Rattle.solver.specs.declared.fault.SolverFault.{SolverFault}
 use Rattle.solver.specs.declared.fault.SolverFault.TheVariants as fault
 use Rattle.solver.specs.declared.replies.Reply.{Reply}
@@ -107,29 +107,21 @@ QuestionCause (question.Moves number) = MovesCause number
 QuestionCause (question.Show number) = ShowCause number
 QuestionCause (question.Find position) = FindCause position.now
 
--- the exit status of a refusal: 3 for a damaged table, 4 if the device failed, 5 if out of memory, and else 1
-abbrev pub status_of_fault : SolverFault → ℕ
-status_of_fault fault.Damaged = 3
-status_of_fault fault.Disk = 4
-status_of_fault fault.OutOfMemory = 5
-status_of_fault (fault.Game game_fault.OutOfMemory) = 5
-status_of_fault _ = 1
-
 -- the exit status of a reply
 abbrev pub status_of_reply : Reply → ℕ
-status_of_reply (answer.Refused fault) = status_of_fault fault
+status_of_reply (answer.Refused fault) = status_of fault
 status_of_reply _ = 0
 
 -- these bytes with status 0, or this refusal with its own
 abbrev pub IsTextOrRefusal : Result (Vec ℕ) SolverFault → ℕ → List ℕ → Type 0
 IsTextOrRefusal (Ok text) status line = (status ≡ 0) × (line ≡ text.items)
-IsTextOrRefusal (Err why) status line = (status ≡ status_of_fault why) × (line ≡ fault_line why)
+IsTextOrRefusal (Err why) status line = (status ≡ status_of why) × (line ≡ fault_line why)
 
 -- the text of the game byte for byte, on any disk; or that none is loaded
 abbrev pub IsGameReplied : State → ℕ → List ℕ → Type 0
 IsGameReplied old status line =
     ((status ≡ 0) × (text_kept old.kept ≡ Some line))
-    ⊎ ((old.kept ≡ None) × (status ≡ status_of_fault fault.NoGame) × (line ≡ fault_line fault.NoGame))
+    ⊎ ((old.kept ≡ None) × (status ≡ status_of fault.NoGame) × (line ≡ fault_line fault.NoGame))
 
 -- a line that neither works nor asks about positions
 abbrev pub IsNoCall : Asked → Type 0
@@ -153,7 +145,7 @@ pub record SaysPages (state : State) (line : List ℕ) : Type 0 where
 abbrev pub IsAnsweredOrRefused : (List ℕ → Kept → Type 0) → (SolverFault → Type 0) → State → ℕ → List ℕ → Type 0
 IsAnsweredOrRefused Answers Cause old status line =
     ((status ≡ 0) × Tells (Answers line) old)
-    ⊎ ((why : SolverFault) × (status ≡ status_of_fault why) × (line ≡ fault_line why) × Cause why)
+    ⊎ ((why : SolverFault) × (status ≡ status_of why) × (line ≡ fault_line why) × Cause why)
 
 module _ (Stores : ℕ → Layout) where
   -- this many units are asked for: their reply as a line, and what was done is the turn of that command

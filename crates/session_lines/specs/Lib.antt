@@ -20,8 +20,9 @@ pub mod Verdicts
 pub mod Told
 pub mod Parts
 pub mod Moments
+pub mod Frames
 pub mod Asked
 pub mod Answered
 pub mod Listed
 pub mod Printed
-pub mod aid
+pub mod lemmas

@@ -16,7 +16,7 @@ use Rattle.solver.specs.Queries.{OfKept, IsGameOf}
 use Rattle.solver.specs.Units.{units_in}
 use Rattle.session_lines.specs.declared.input.ListingLine.{ListingLine}
 use Rattle.session_lines.specs.declared.input.ListingLine.TheVariants.{Begin, Next, End}
-use Rattle.session_lines.specs.Answered.{status_of_fault}
+use Rattle.solver.specs.Faults.{status_of}
 use Rattle.session_lines.specs.Told.{fault_line}
 
 -- the rows of this table from this place on, a line each, this many or up to the last, and the next place; the players are those of the
@@ -64,7 +64,7 @@ module _ {F Version : Type 0} (state : F → State) (IsVersion : Version → Sto
   pub record IsNotBegun (UsedUp : Type 0) (old new : F) (before after : List (Listing Version)) (status : ℕ) (line : List ℕ) : Type 0 where
     pub others : AllLast IsVersion old new
     pub why : SolverFault
-    pub status_is : status ≡ status_of_fault why
+    pub status_is : status ≡ status_of why
     pub line_is : line ≡ fault_line why
     pub same : after ≡ before
     pub cause : BeginCause (state old) UsedUp why ⊎ (why ≡ OutOfMemory)
@@ -73,7 +73,7 @@ module _ {F Version : Type 0} (state : F → State) (IsVersion : Version → Sto
   abbrev pub IsNextTold : ℕ → F → F → Stored (List ℕ) → ℕ → ℕ → ℕ → List ℕ → Type 0
   IsNextTold count old new table place next status line =
       ((status ≡ 0) × IsNextText table place next count line (state old).kept)
-      ⊎ ((why : SolverFault) × (status ≡ status_of_fault why) × (line ≡ fault_line why) × NextCause (state old) (state new) why)
+      ⊎ ((why : SolverFault) × (status ≡ status_of why) × (line ≡ fault_line why) × NextCause (state old) (state new) why)
 
   -- the listing that was begun last tells its next rows, this many or up to the last, and goes on after them; the others stay, and all last
   pub record IsNext (count : ℕ) (old new : F) (before after : List (Listing Version)) (status : ℕ) (line : List ℕ) : Type 0 where

@@ -7,8 +7,8 @@ ghost use Rattle.session_lines.specs.Parts.{IsWritten};
 
 use crate::puts::put_line;
 use crate::refusals::write_refused;
-use crate::refused::Refused;
 use rbg_read::numbered::list::action_lines;
+use solver::SolverFault;
 use std::alloc::Global;
 use std::io::Write;
 
@@ -19,7 +19,7 @@ pub fn actions_to<W: Write>(alloc: Global, text: &[u8], out: &mut W) -> u8
 {
     match action_lines(alloc, text) {
         Ok(lines) => put_actions(lines.as_slice(), out),
-        Err(fault) => write_refused(Refused::Game(fault), out),
+        Err(fault) => write_refused(SolverFault::Game(fault), out),
     }
 }
 

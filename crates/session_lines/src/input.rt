@@ -2,7 +2,7 @@
 
 ghost use Rattle.std.specs.Prelude.{◌≡◌, ◌≤◌, ◌<◌, ◌∷◌, [], ◌++◌, List, ℕ, length, false, IsTrue, OnOk};
 ghost use Rattle.session_lines.specs.Asked.{SayWords, Asks, IsBare};
-ghost use Rattle.session_lines.specs.aid.Words.{IsFirstWord, IsTrimmed, IsSplit, SaysBehind};
+ghost use Rattle.session_lines.specs.lemmas.Words.{IsFirstWord, IsTrimmed, IsSplit, SaysBehind};
 ghost use Rattle.session_lines.specs.declared.input.Asked.TheVariants.{Usage};
 
 use line_syntax::numbers::number;

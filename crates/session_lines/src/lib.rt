@@ -15,7 +15,6 @@ pub mod moves;
 pub mod puts;
 pub mod questions;
 pub mod refusals;
-pub mod refused;
 pub mod replies;
 pub mod rulebook;
 pub mod verdicts;

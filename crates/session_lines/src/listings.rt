@@ -5,12 +5,13 @@ ghost use Rattle.std.specs.Io.KnownBytes.{Appends};
 ghost use Rattle.game_file.specs.Calls.{IsAsked};
 ghost use Rattle.game_file.specs.Kept.{Kept};
 ghost use Rattle.retrograde.specs.Stored.{Stored, IsTable};
+ghost use Rattle.solver.specs.Frames.{IsOnlyAsked, IsSameFor};
 ghost use Rattle.solver.specs.Listings.{BeginCause, NextCause};
 ghost use Rattle.solver.specs.Solvers.{state, IsReady};
 ghost use Rattle.solver.specs.Units.{units_in};
 ghost use Rattle.solver.specs.declared.listing.Listing.{Listing};
 ghost use Rattle.solver.specs.declared.fault.SolverFault.{SolverFault};
-ghost use Rattle.session_lines.specs.Answered.{status_of_fault};
+ghost use Rattle.solver.specs.Faults.{status_of};
 ghost use Rattle.session_lines.specs.Listed.{IsNextText, IsNextTold, IsNoneOpen, IsNext, IsListingReplied, AllLast};
 ghost use Rattle.session_lines.specs.Moments.{noted_in};
 ghost use Rattle.session_lines.specs.Parts.{AppendsPart};
@@ -75,8 +76,7 @@ pub fn put_listing<F: Versions, W: Write, E: Write>(
 
 /// Ends the listing that was begun last, and answers whether one was open.
 fn end<F: Versions>(solver: &mut FileSolver<F>, listings: &mut Vec<Listing<F::Version>>) -> bool
-    ensures ready { IsReady solver.old → IsReady solver.new }
-    ensures state { IsReady solver.old → IsTrue (state solver.old).disk.honest → state solver.new ≡ state solver.old }
+    ensures same { IsSameFor solver.old solver.new }
     ensures ended { result ≡ true → ((listing : Listing F.Version) × (listings.old.items ≡ listings.new.items ++ listing ∷ [])
         × ((table : Stored (List ℕ)) → ¬ F.is_version listing.version table solver.new.file)
         × ((other : F.Version) (table : Stored (List ℕ)) → F.are_two other listing.version → F.is_version other table solver.old.file
@@ -97,8 +97,7 @@ fn begin<F: Versions>(
     solver: &mut FileSolver<F>,
     listings: &mut Vec<Listing<F::Version>>,
 ) -> Result<(), SolverFault>
-    ensures ready { IsReady solver.old → IsReady solver.new }
-    ensures state { IsReady solver.old → IsTrue (state solver.old).disk.honest → state solver.new ≡ state solver.old }
+    ensures same { IsSameFor solver.old solver.new }
     ensures begun { OnOk result ((listing : Listing F.Version) × (listings.new.items ≡ listings.old.items ++ listing ∷ [])
         × (listing.next ≡ 0)
         × (IsReady solver.old → IsTrue (state solver.old).disk.honest → (kept : Kept) → (state solver.old).kept ≡ Some kept
@@ -126,9 +125,7 @@ fn next_text<F: Versions>(
     listing: &mut Listing<F::Version>,
     count: Units,
 ) -> Result<Vec<u8>, SolverFault>
-    ensures ready { IsReady solver.old → IsReady solver.new }
-    ensures asked { IsReady solver.old → IsAsked F.stores (state solver.old) (state solver.new) }
-    ensures lasts { F.lasts solver.old.file solver.new.file }
+    ensures left { IsOnlyAsked solver.old solver.new }
     ensures same { listing.new.version ≡ listing.old.version }
     ensures text { IsReady solver.old → IsTrue (state solver.old).disk.honest → (table : Stored (List ℕ)) → IsTable table
         → F.is_version listing.old.version table solver.old.file
@@ -153,9 +150,7 @@ fn put_next<F: Versions, W: Write, E: Write>(
     told: &mut E,
     moments: &mut Moments<FileSolver<F>, W>,
 ) -> io::Result<u8>
-    ensures ready { IsReady solver.old → IsReady solver.new }
-    ensures asked { IsReady solver.old → IsAsked F.stores (state solver.old) (state solver.new) }
-    ensures lasts { F.lasts solver.old.file solver.new.file }
+    ensures left { IsOnlyAsked solver.old solver.new }
     ensures same { listing.new.version ≡ listing.old.version }
     ensures replied { IsReady solver.old → IsTrue (state solver.old).disk.honest → IfOk result (λ status. (line : List ℕ)
         × (IsSome (state solver.old).kept → (table : Stored (List ℕ)) → IsTable table → F.is_version listing.old.version table solver.old.file

@@ -1,12 +1,12 @@
 //! What a look replies to its lines.
 
-ghost use Rattle.std.specs.Prelude.{◌≡◌, ◌∷◌, ◌++◌, [], ℕ, List, IfOk, OnOk, OnErr};
+ghost use Rattle.std.specs.Prelude.{◌≡◌, ◌∷◌, ◌++◌, [], OnOk};
 ghost use Rattle.std.specs.Io.KnownBytes.{Appends};
 ghost use Rattle.solver.specs.Solvers.{state, IsReady};
 ghost use Rattle.session_lines.specs.Answered.{IsDoneFor, IsReplied};
 ghost use Rattle.session_lines.specs.Asked.{in_look};
 ghost use Rattle.session_lines.specs.Moments.{noted_in};
-ghost use Rattle.session_lines.specs.Parts.{AppendsPart};
+ghost use Rattle.session_lines.specs.Parts.{IsPut};
 ghost use Rattle.session_lines.specs.Replies.{pages_line};
 
 use crate::advice::tell_look;
@@ -31,12 +31,8 @@ pub fn put_looked<F: GameFile, W: Write, E: Write>(
 ) -> io::Result<u8>
     ensures ready { IsReady solver.old → IsReady solver.new }
     ensures done { IsReady solver.old → IsDoneFor F.stores (in_look asked.entry) (state solver.old) (state solver.new) }
-    ensures replied { IsReady solver.old → IfOk result (λ status. (line : List ℕ)
-        × IsReplied F.stores (in_look asked.entry) (state solver.old) (state solver.new) status line
-        × Appends (W.contents out.old) (W.contents out.new) line) }
-    ensures untold { IsReady solver.old → OnErr result ((status : ℕ) × (line : List ℕ)
-        × IsReplied F.stores (in_look asked.entry) (state solver.old) (state solver.new) status line
-        × AppendsPart (W.contents out.old) (W.contents out.new) line) }
+    ensures written { IsReady solver.old → IsPut (IsReplied F.stores (in_look asked.entry) (state solver.old) (state solver.new))
+        (W.contents out.old) (W.contents out.new) result }
     ensures noted { noted_in moments.new ≡ noted_in moments.old ++ (solver.new, out.old) ∷ [] }
     ensures pages { asked.entry ≡ Asked.Pages → OnOk result (Appends (W.contents out.old) (W.contents out.new)
         (pages_line (state solver.old).capacity (F.free solver.old.file))) }

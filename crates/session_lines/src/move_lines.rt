@@ -5,26 +5,26 @@ ghost use Rattle.std.specs.Io.KnownBytes.{Appends};
 ghost use Rattle.rbg_game.specs.Positions.{IsPositionOf};
 ghost use Rattle.legal_moves.specs.Compiled.{compiled_game, IsSoundCompiled};
 ghost use Rattle.session_lines.specs.Lines.{IsLine, AreLines};
-ghost use Rattle.session_lines.specs.aid.Lines.{HasPosition, SaysMoves};
+ghost use Rattle.session_lines.specs.lemmas.Lines.{HasPosition, SaysMoves};
 ghost use Rattle.session_lines.specs.Answers.{TellsMoves};
-ghost use Rattle.session_lines.specs.aid.Stops.{IsStoppedLine, IsStopped};
+ghost use Rattle.session_lines.specs.lemmas.Stops.{IsStoppedLine, IsStopped};
 ghost use Rattle.session_lines.specs.Parts.{AppendsPart};
 
 use crate::lines::move_line;
 use crate::puts::put_bytes;
-use crate::refused::Refused;
 use legal_moves::compiled::Compiled;
 use legal_moves::fault::MoveFault;
 use legal_moves::moves::Moves;
 use position_pack::{Packing, PackingKind};
 use rbg_game::position::Position;
+use solver::SolverFault;
 use std::alloc::{AllocError, Global};
 use std::io::{self, Write};
 
 /// Why not all was written.
 #[derive(Drop)]
 pub enum Stop {
-    Refused(Refused),
+    Refused(SolverFault),
     /// The output failed.
     Output,
 }
@@ -43,12 +43,12 @@ impl From<io::Error> for Stop {
 impl From<AllocError> for Stop {
     ghost use Rattle.std.specs.Prelude.{◌≡◌};
     ghost use Rattle.session_lines.specs.declared.move_lines.Stop.TheVariants.{Refused as Refuses};
-    ghost use Rattle.session_lines.specs.declared.refused.Refused.TheVariants.{OutOfMemory};
+    ghost use Rattle.solver.specs.declared.fault.SolverFault.TheVariants.{OutOfMemory};
 
     ghost from_gives = { λ _ stop. stop ≡ Refuses OutOfMemory };
 
     fn from(_error: AllocError) -> Stop {
-        Stop::Refused(Refused::OutOfMemory)
+        Stop::Refused(SolverFault::OutOfMemory)
     }
 }
 
@@ -68,8 +68,8 @@ pub fn write_moves<W: Write>(
 {
     let moves = match compiled.moves(alloc, at) {
         Ok(moves) => moves,
-        Err(MoveFault::TooWide) => return Err(Stop::Refused(Refused::TooWide)),
-        Err(MoveFault::OutOfMemory) => return Err(Stop::Refused(Refused::OutOfMemory)),
+        Err(MoveFault::TooWide) => return Err(Stop::Refused(SolverFault::TooWide)),
+        Err(MoveFault::OutOfMemory) => return Err(Stop::Refused(SolverFault::OutOfMemory)),
     };
     write_answer(alloc, compiled, &moves, out)
 }

@@ -17,7 +17,7 @@ pub fn moves_to<W: Write>(alloc: Global, text: &[u8], out: &mut W) -> u8
 {
     match Rulebook::read(alloc, text) {
         Ok(book) => book.put_start_moves(alloc, out),
-        Err(refused) => write_refused(refused, out),
+        Err(fault) => write_refused(fault, out),
     }
 }
 
@@ -29,6 +29,6 @@ pub fn moves_at<W: Write>(alloc: Global, text: &[u8], position: &[u8], out: &mut
 {
     match Rulebook::read(alloc, text) {
         Ok(book) => book.put_moves_at(alloc, position, out),
-        Err(refused) => write_refused(refused, out),
+        Err(fault) => write_refused(fault, out),
     }
 }

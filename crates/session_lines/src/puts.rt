@@ -3,27 +3,13 @@
 ghost use Rattle.std.specs.Prelude.{◌≡◌, ℕ, List, OnOk, OnErr};
 ghost use Rattle.std.specs.Fmt.{decimal};
 ghost use Rattle.std.specs.Io.KnownBytes.{Appends};
-ghost use Rattle.session_lines.specs.Answered.{status_of_fault};
 ghost use Rattle.session_lines.specs.Parts.{AppendsPart};
 ghost use Rattle.session_lines.specs.Told.{behind_code, fault_line, IsReplyLine};
 
 use crate::replies::put_work;
 use itoa::Buffer;
-use rbg_read::fault::GameFault;
 use solver::{Reply, SolverFault};
 use std::io::{self, ErrorKind, Write};
-
-/// The exit status of a refusal: 3 for a damaged table, 4 where the device failed, 5 for want of memory, else 1.
-pub fn status_of(fault: SolverFault) -> u8
-    ensures { result ≡ status_of_fault fault }
-{
-    match fault {
-        SolverFault::Damaged => 3,
-        SolverFault::Disk => 4,
-        SolverFault::OutOfMemory | SolverFault::Game(GameFault::OutOfMemory) => 5,
-        _ => 1,
-    }
-}
 
 /// Writes these bytes. Where the output fails, it holds a part of them, from the first on, as `write_all` does not promise.
 pub fn put_bytes<W: Write>(out: &mut W, bytes: &[u8]) -> io::Result<()>

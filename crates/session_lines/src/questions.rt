@@ -2,7 +2,8 @@
 
 ghost use Rattle.std.specs.Prelude.{◌≡◌, ◌∷◌, ◌++◌, [], ℕ, List, IfOk, IfErr, OnOk, OnErr};
 ghost use Rattle.std.specs.Io.KnownBytes.{Appends};
-ghost use Rattle.game_file.specs.Calls.{IsAsked};
+ghost use Rattle.solver.specs.Faults.{status_of};
+ghost use Rattle.solver.specs.Frames.{IsOnlyAsked};
 ghost use Rattle.solver.specs.Machine.{work as work_on};
 ghost use Rattle.solver.specs.Moves.{MovesCause};
 ghost use Rattle.solver.specs.Runs.{IsTurnWithCause};
@@ -11,9 +12,10 @@ ghost use Rattle.solver.specs.Solvers.{state, IsReady};
 ghost use Rattle.solver.specs.Units.{units_in};
 ghost use Rattle.session_lines.specs.Answered.{IsValueLine, IsValueLineOf, AreRowLines, AreMoveLines, IsPlayLine, IsShownLine, IsFoundLine};
 ghost use Rattle.session_lines.specs.Answered.{IsAnswerTo, QuestionCause};
-ghost use Rattle.session_lines.specs.Answered.{status_of_fault, IsDoneFor, IsNoCall, IsReplied, IsTextOrRefusal, IsWorkReplied};
+ghost use Rattle.session_lines.specs.Answered.{IsDoneFor, IsNoCall, IsReplied, IsTextOrRefusal, IsWorkReplied};
 ghost use Rattle.session_lines.specs.Moments.{noted_in};
-ghost use Rattle.session_lines.specs.Parts.{AppendsPart};
+ghost use Rattle.session_lines.specs.Frames.{IsStillReady};
+ghost use Rattle.session_lines.specs.Parts.{AppendsPart, IsPut};
 ghost use Rattle.session_lines.specs.Replies.{pages_line};
 ghost use Rattle.session_lines.specs.Told.{fault_line};
 
@@ -21,7 +23,7 @@ use crate::advice::{tell_fault, tell_full};
 use crate::input::{Asked, Question};
 use crate::known::known_move_lines;
 use crate::moments::Moments;
-use crate::puts::{put_line, put_refused, put_reply, status_of};
+use crate::puts::{put_line, put_refused, put_reply};
 use crate::replies::{found_line, numbers_line, put_pages, put_status, row_lines, value_line};
 use game_file::GameFile;
 use line_syntax::help::LINES;
@@ -41,15 +43,10 @@ pub fn put_answer<F: GameFile, W: Write, E: Write>(
     told: &mut E,
     moments: &mut Moments<FileSolver<F>, W>,
 ) -> io::Result<u8>
-    ensures ready { IsReady solver.old → IsReady solver.new }
-    ensures lasts { F.lasts solver.old.file solver.new.file }
+    ensures left { IsStillReady solver.old solver.new }
     ensures done { IsReady solver.old → IsDoneFor F.stores asked.entry (state solver.old) (state solver.new) }
-    ensures replied { IsReady solver.old → IfOk result (λ status. (line : List ℕ)
-        × IsReplied F.stores asked.entry (state solver.old) (state solver.new) status line
-        × Appends (W.contents out.old) (W.contents out.new) line) }
-    ensures untold { IsReady solver.old → OnErr result ((status : ℕ) × (line : List ℕ)
-        × IsReplied F.stores asked.entry (state solver.old) (state solver.new) status line
-        × AppendsPart (W.contents out.old) (W.contents out.new) line) }
+    ensures written { IsReady solver.old → IsPut (IsReplied F.stores asked.entry (state solver.old) (state solver.new))
+        (W.contents out.old) (W.contents out.new) result }
     ensures noted { noted_in moments.new ≡ noted_in moments.old ++ (solver.new, out.old) ∷ [] }
     ensures pages { asked.entry ≡ Asked.Pages → OnOk result (Appends (W.contents out.old) (W.contents out.new)
         (pages_line (state solver.old).capacity (F.free solver.old.file))) }
@@ -123,13 +120,13 @@ pub fn put_fault<W: Write, E: Write>(
     out: &mut W,
     told: &mut E,
 ) -> io::Result<u8>
-    ensures status { IfOk result (λ status. status ≡ status_of_fault fault) }
+    ensures status { IfOk result (λ status. status ≡ status_of fault) }
     ensures line { OnOk result (Appends (W.contents out.old) (W.contents out.new) (fault_line fault)) }
     ensures part { OnErr result (AppendsPart (W.contents out.old) (W.contents out.new) (fault_line fault)) }
 {
     put_refused(out, fault)?;
     tell_fault(told, fault);
-    Ok(status_of(fault))
+    Ok(fault.status())
 }
 
 /// Writes the text that was asked for, or the refusal, and gives its status.
@@ -157,8 +154,7 @@ fn put_worked<F: GameFile, W: Write, E: Write>(
     told: &mut E,
     moments: &mut Moments<FileSolver<F>, W>,
 ) -> io::Result<u8>
-    ensures ready { IsReady solver.old → IsReady solver.new }
-    ensures lasts { F.lasts solver.old.file solver.new.file }
+    ensures left { IsStillReady solver.old solver.new }
     ensures done { IsReady solver.old
         → (reply : Reply) × IsTurnWithCause F.stores (work_on (units_in units)) reply (state solver.old) (state solver.new) }
     ensures worked { IsReady solver.old → IfOk result (λ status. (line : List ℕ)
@@ -175,7 +171,7 @@ fn put_worked<F: GameFile, W: Write, E: Write>(
         Reply::Refused(SolverFault::TableFull) => {
             put_refused(out, SolverFault::TableFull)?;
             tell_full(told, solver.capacity());
-            Ok(status_of(SolverFault::TableFull))
+            Ok(SolverFault::TableFull.status())
         }
         Reply::Refused(fault) => put_fault(fault, out, told),
         reply => {
@@ -191,9 +187,7 @@ fn text_of<F: GameFile>(
     solver: &mut FileSolver<F>,
     question: Question<'_>,
 ) -> Result<Vec<u8>, SolverFault>
-    ensures ready { IsReady solver.old → IsReady solver.new }
-    ensures lasts { F.lasts solver.old.file solver.new.file }
-    ensures asked { IsReady solver.old → IsAsked F.stores (state solver.old) (state solver.new) }
+    ensures left { IsOnlyAsked solver.old solver.new }
     ensures text { IsReady solver.old → IfOk result (λ text. Tells (IsAnswerTo question.entry text.items) (state solver.old)) }
     ensures cause { IsReady solver.old → IfErr result (QuestionCause question.entry (state solver.old) (state solver.new)) }
 {
@@ -214,9 +208,7 @@ fn value_of<F: GameFile>(
     solver: &mut FileSolver<F>,
     number: u32,
 ) -> Result<Vec<u8>, SolverFault>
-    ensures ready { IsReady solver.old → IsReady solver.new }
-    ensures lasts { F.lasts solver.old.file solver.new.file }
-    ensures asked { IsReady solver.old → IsAsked F.stores (state solver.old) (state solver.new) }
+    ensures left { IsOnlyAsked solver.old solver.new }
     ensures text { IsReady solver.old → IfOk result (λ text. Tells (IsValueLine number text.items) (state solver.old)) }
     ensures cause { IsReady solver.old → IfErr result (NumberCause number (state solver.old) (state solver.new)) }
 {
@@ -230,9 +222,7 @@ fn value_found<F: GameFile>(
     solver: &mut FileSolver<F>,
     text: &[u8],
 ) -> Result<Vec<u8>, SolverFault>
-    ensures ready { IsReady solver.old → IsReady solver.new }
-    ensures lasts { F.lasts solver.old.file solver.new.file }
-    ensures asked { IsReady solver.old → IsAsked F.stores (state solver.old) (state solver.new) }
+    ensures left { IsOnlyAsked solver.old solver.new }
     ensures text { IsReady solver.old → IfOk result (λ line. Tells (IsValueLineOf text.now line.items) (state solver.old)) }
     ensures cause { IsReady solver.old → IfErr result (FindCause text.now (state solver.old) (state solver.new)) }
 {
@@ -247,9 +237,7 @@ fn rows_of<F: GameFile>(
     from: u32,
     count: Units,
 ) -> Result<Vec<u8>, SolverFault>
-    ensures ready { IsReady solver.old → IsReady solver.new }
-    ensures lasts { F.lasts solver.old.file solver.new.file }
-    ensures asked { IsReady solver.old → IsAsked F.stores (state solver.old) (state solver.new) }
+    ensures left { IsOnlyAsked solver.old solver.new }
     ensures text { IsReady solver.old → IfOk result (λ text. Tells (AreRowLines from (units_in count) text.items) (state solver.old)) }
     ensures cause { IsReady solver.old → IfErr result (NumberCause from (state solver.old) (state solver.new)) }
 {
@@ -263,9 +251,7 @@ fn moves_of<F: GameFile>(
     solver: &mut FileSolver<F>,
     number: u32,
 ) -> Result<Vec<u8>, SolverFault>
-    ensures ready { IsReady solver.old → IsReady solver.new }
-    ensures lasts { F.lasts solver.old.file solver.new.file }
-    ensures asked { IsReady solver.old → IsAsked F.stores (state solver.old) (state solver.new) }
+    ensures left { IsOnlyAsked solver.old solver.new }
     ensures text { IsReady solver.old → IfOk result (λ text. Tells (AreMoveLines number text.items) (state solver.old)) }
     ensures cause { IsReady solver.old → IfErr result (MovesCause number (state solver.old) (state solver.new)) }
 {
@@ -280,9 +266,7 @@ fn play_of<F: GameFile>(
     solver: &mut FileSolver<F>,
     number: u32,
 ) -> Result<Vec<u8>, SolverFault>
-    ensures ready { IsReady solver.old → IsReady solver.new }
-    ensures lasts { F.lasts solver.old.file solver.new.file }
-    ensures asked { IsReady solver.old → IsAsked F.stores (state solver.old) (state solver.new) }
+    ensures left { IsOnlyAsked solver.old solver.new }
     ensures text { IsReady solver.old → IfOk result (λ text. Tells (IsPlayLine number text.items) (state solver.old)) }
     ensures cause { IsReady solver.old → IfErr result (LineCause number (state solver.old) (state solver.new)) }
 {
@@ -292,9 +276,7 @@ fn play_of<F: GameFile>(
 
 /// The line of a position's text.
 fn shown<F: GameFile>(solver: &mut FileSolver<F>, number: u32) -> Result<Vec<u8>, SolverFault>
-    ensures ready { IsReady solver.old → IsReady solver.new }
-    ensures lasts { F.lasts solver.old.file solver.new.file }
-    ensures asked { IsReady solver.old → IsAsked F.stores (state solver.old) (state solver.new) }
+    ensures left { IsOnlyAsked solver.old solver.new }
     ensures text { IsReady solver.old → IfOk result (λ text. Tells (IsShownLine number text.items) (state solver.old)) }
     ensures cause { IsReady solver.old → IfErr result (ShowCause number (state solver.old) (state solver.new)) }
 {
@@ -309,9 +291,7 @@ fn found<F: GameFile>(
     solver: &mut FileSolver<F>,
     text: &[u8],
 ) -> Result<Vec<u8>, SolverFault>
-    ensures ready { IsReady solver.old → IsReady solver.new }
-    ensures lasts { F.lasts solver.old.file solver.new.file }
-    ensures asked { IsReady solver.old → IsAsked F.stores (state solver.old) (state solver.new) }
+    ensures left { IsOnlyAsked solver.old solver.new }
     ensures text { IsReady solver.old → IfOk result (λ line. Tells (IsFoundLine text.now line.items) (state solver.old)) }
     ensures cause { IsReady solver.old → IfErr result (FindCause text.now (state solver.old) (state solver.new)) }
 {

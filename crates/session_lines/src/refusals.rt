@@ -1,29 +1,18 @@
 //! The line of a refusal, with its exit status.
 
-ghost use Rattle.std.specs.Prelude.{OnErr, OnOk};
-ghost use Rattle.std.specs.Io.KnownBytes.{Appends};
-ghost use Rattle.session_lines.specs.Answers.{refusal_line, TellsRefusal};
-ghost use Rattle.session_lines.specs.Parts.{AppendsPart, IsWritten};
+ghost use Rattle.session_lines.specs.Answers.{TellsRefusal};
+ghost use Rattle.session_lines.specs.Parts.{IsWritten};
 
-use crate::puts::{put_bytes, put_line};
-use crate::refused::Refused;
-use std::io::{self, Write};
+use crate::puts::put_refused;
+use solver::SolverFault;
+use std::io::Write;
 
 /// Writes `refused` with the code, and gives the status that goes with it, or 4 where the output fails.
-pub fn write_refused<W: Write>(refused: Refused, out: &mut W) -> u8
-    ensures { IsWritten (TellsRefusal refused) (W.contents out.old) (W.contents out.new) result }
+pub fn write_refused<W: Write>(fault: SolverFault, out: &mut W) -> u8
+    ensures { IsWritten (TellsRefusal fault) (W.contents out.old) (W.contents out.new) result }
 {
-    match put_refusal(refused, out) {
-        Ok(()) => refused.status(),
+    match put_refused(out, fault) {
+        Ok(()) => fault.status(),
         Err(_) => 4,
     }
-}
-
-fn put_refusal<W: Write>(refused: Refused, out: &mut W) -> io::Result<()>
-    ensures all { OnOk result (Appends (W.contents out.old) (W.contents out.new) (refusal_line refused)) }
-    ensures part { OnErr result (AppendsPart (W.contents out.old) (W.contents out.new) (refusal_line refused)) }
-{
-    put_bytes(out, b"refused ")?;
-    put_bytes(out, refused.code().as_bytes())?;
-    put_line(out, b"\n")
 }

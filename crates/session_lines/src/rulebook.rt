@@ -5,7 +5,7 @@ ghost use Rattle.rbg_game.specs.Names.{HasProperNames};
 ghost use Rattle.rbg_game.specs.Positions.{IsPositionOf};
 ghost use Rattle.rbg_game.specs.declared.position.Position.{Position as TextbookPosition};
 ghost use Rattle.position_pack.specs.Spelled.{IsSpelled};
-ghost use Rattle.rbg_read.specs.Reading.{Reads};
+ghost use Rattle.rbg_read.specs.Reads.{Reads};
 ghost use Rattle.legal_moves.specs.Compiled.{compiled_game, IsSoundCompiled};
 ghost use Rattle.legal_moves.specs.Moves.{start_of};
 ghost use Rattle.session_lines.specs.Answers.{TellsMoves, TellsMovesAt, IsRefused};
@@ -13,11 +13,11 @@ ghost use Rattle.session_lines.specs.Parts.{IsWritten};
 
 use crate::move_lines::{Stop, write_moves};
 use crate::refusals::write_refused;
-use crate::refused::Refused;
 use legal_moves::compiled::Compiled;
 use position_pack::{PackingKind, read_position};
 use rbg_game::position::Position;
 use rbg_read::read::read_game;
+use solver::SolverFault;
 use std::alloc::Global;
 use std::io::Write;
 use std::marker::Model;
@@ -47,13 +47,13 @@ impl Model for Rulebook {
 
 impl Rulebook {
     /// The game that a text reads to, or why there is none.
-    pub fn read(alloc: Global, text: &[u8]) -> Result<Rulebook, Refused>
+    pub fn read(alloc: Global, text: &[u8]) -> Result<Rulebook, SolverFault>
         ensures reads { IfOk result (λ book. Reads text.now (compiled_game book)) }
         ensures refused { IfErr result (IsRefused text.now) }
     {
         match compiled_of(alloc, text) {
             Ok(compiled) => Ok(Rulebook { compiled }),
-            Err(refused) => Err(refused),
+            Err(fault) => Err(fault),
         }
     }
 
@@ -82,7 +82,7 @@ impl Rulebook {
     {
         match read_position(self.compiled.game(), position) {
             Some(at) => self.put_moves(alloc, &at, out),
-            None => write_refused(Refused::BadPosition, out),
+            None => write_refused(SolverFault::BadPosition, out),
         }
     }
 
@@ -93,24 +93,24 @@ impl Rulebook {
     {
         match write_moves(alloc, &self.compiled, at, out) {
             Ok(()) => 0,
-            Err(Stop::Refused(refused)) => write_refused(refused, out),
+            Err(Stop::Refused(fault)) => write_refused(fault, out),
             Err(Stop::Output) => 4,
         }
     }
 }
 
 /// The game that the text reads to, with the tables of its rules, or why there is none.
-fn compiled_of(alloc: Global, text: &[u8]) -> Result<Compiled, Refused>
+fn compiled_of(alloc: Global, text: &[u8]) -> Result<Compiled, SolverFault>
     ensures reads { IfOk result (λ compiled. Reads text.now (compiled_game compiled)) }
     ensures sound { IfOk result IsSoundCompiled }
     ensures refused { IfErr result (IsRefused text.now) }
 {
     let game = match read_game(alloc, text) {
         Ok(game) => game,
-        Err(fault) => return Err(Refused::Game(fault)),
+        Err(fault) => return Err(SolverFault::Game(fault)),
     };
     match Compiled::new(alloc, game, PackingKind::Bytes, None) {
         Ok(compiled) => Ok(compiled),
-        Err(_) => Err(Refused::OutOfMemory),
+        Err(_) => Err(SolverFault::OutOfMemory),
     }
 }

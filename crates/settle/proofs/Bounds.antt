@@ -5,10 +5,10 @@ use Rattle.retrograde.specs.declared.records.Record.{Record}
 use Rattle.retrograde.specs.Graph.{Graph}
 use Rattle.retrograde.specs.Stored.{Stored, HasRecord}
 use Rattle.retrograde.specs.Edges.{IsAfter, IsNextEdge, HasNoMoreEdges}
-use Rattle.retrograde.specs.aid.Processing.{lower_at, lowered_below}
-use Rattle.retrograde.proofs.Counting.{true_or_false}
-use Rattle.retrograde.proofs.Lowering.{AreLowered, below_keeps}
-use Rattle.settle.specs.aid.Stuck.{IsStuck, IsStuckAt}
+use Rattle.retrograde.specs.lemmas.ProcessSteps.{lower_at, lowered_below}
+use Rattle.retrograde.proofs.CountLemmas.{true_or_false}
+use Rattle.retrograde.proofs.Predecessors.{AreLowered, below_keeps}
+use Rattle.settle.specs.lemmas.Stuck.{IsStuck, IsStuckAt}
 
 -- the least number that a look after this one can give
 abbrev pub bound_of : Option ℕ → ℕ

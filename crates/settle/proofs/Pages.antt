@@ -6,9 +6,9 @@ use Rattle.rbg_game.specs.declared.roles.Player.{Player}
 use Rattle.retrograde.specs.declared.records.Record.{Record}
 use Rattle.retrograde.specs.Graph.{Graph}
 use Rattle.retrograde.specs.Stored.{Stored, count_below, expanded_count, processed_count}
-use Rattle.retrograde.proofs.Counting.{counts_one}
+use Rattle.retrograde.proofs.CountLemmas.{counts_one}
 use Rattle.retrograde.specs.Edges.{IsNextEdge}
-use Rattle.retrograde.specs.Processing.{with_processed_alone}
+use Rattle.retrograde.specs.Process.{with_processed_alone}
 use Rattle.table.specs.declared.limits.TheConstants.{PAGES_PER_ENTRY}
 use Rattle.frontier.specs.Entries.{edges_below, WritesAtMost}
 use Rattle.settle.proofs.Bounds.{bound_of, after_bound, now, keeps}

@@ -2,9 +2,11 @@ pub use Rattle.frontier.specs.Causes
 pub use Rattle.frontier.specs.Done
 pub use Rattle.frontier.specs.Entries
 pub use Rattle.frontier.specs.Frames
+pub use Rattle.frontier.specs.Units
 pub use Rattle.retrograde.specs.Changes
-pub use Rattle.retrograde.specs.Processing
+pub use Rattle.retrograde.specs.Process
 pub use Rattle.retrograde.specs.Settles
 pub use Rattle.retrograde.specs.Sound
 pub use Rattle.retrograde.specs.Stored
-pub mod aid
+pub mod Settled
+pub mod lemmas

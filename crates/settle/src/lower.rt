@@ -3,13 +3,13 @@ ghost use Rattle.std.specs.Prelude.{◌≡◌, ◌+◌, ◌*◌, ◌<◌, ◌≤
 ghost use Rattle.retrograde.specs.declared.records.Record.{Record};
 ghost use Rattle.retrograde.specs.Stored.{HasRecord};
 ghost use Rattle.retrograde.specs.Changes.{with_record, with_settled};
-ghost use Rattle.retrograde.specs.aid.Processing.{lower_at, lowered_below};
+ghost use Rattle.retrograde.specs.lemmas.ProcessSteps.{lower_at, lowered_below};
 ghost use Rattle.table.specs.Frames.{IsWritten};
 ghost use Rattle.table.specs.declared.limits.TheConstants.{PAGES_PER_ENTRY};
 ghost use Rattle.frontier.specs.Entries.{edges_below};
 ghost use Rattle.frontier.specs.Frames.{IsGivenUp};
 ghost use Rattle.frontier.specs.declared.fault.StepFault.TheVariants.{Inconsistent};
-ghost use Rattle.settle.specs.aid.Stuck.{IsStuck, IsStuckAt};
+ghost use Rattle.settle.specs.lemmas.Stuck.{IsStuck, IsStuckAt};
 
 use crate::turn::{is_due, lowered};
 use frontier::StepFault;

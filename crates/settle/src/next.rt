@@ -1,13 +1,11 @@
 //! The settled position that waits first.
-ghost use Rattle.std.specs.Prelude.{◌≡◌, ◌+◌, ◌<◌, ◌≤◌, ℕ, IfOk, OnOk, IfErr, Err, slice_get, Some};
-ghost use Rattle.retrograde.specs.Stored.{IsTable, processed_count};
-ghost use Rattle.retrograde.specs.Processing.{IsNextSettled, with_processed_alone};
+ghost use Rattle.std.specs.Prelude.{◌≡◌, ◌+◌, ◌<◌, ◌≤◌, IfOk, OnOk, IfErr, Err};
+ghost use Rattle.retrograde.specs.Stored.{IsTable};
 ghost use Rattle.table.specs.Frames.{IsWritten};
-ghost use Rattle.table.specs.declared.fault.TableFault.{TableFault};
 ghost use Rattle.table.specs.declared.limits.TheConstants.{PAGES_PER_ENTRY};
 ghost use Rattle.frontier.specs.Frames.{IsGivenUp};
-ghost use Rattle.frontier.specs.declared.fault.StepFault.{StepFault};
 ghost use Rattle.frontier.specs.declared.fault.StepFault.TheVariants.{Inconsistent};
+ghost use Rattle.settle.specs.Settled.{IsMarked};
 
 use frontier::StepFault;
 use rbg_game::roles::Player;
@@ -25,15 +23,12 @@ pub struct Settled {
 /// Writes of the first number of the settled order that is not processed that it is, and of no other.
 pub fn process_next<T: Table>(table: &mut T) -> Result<Settled, StepFault>
     requires { (T.counted table.old).processed < (T.counted table.old).settled }
-    ensures next { T.is_honest table.old → IfOk result (λ next. IsNextSettled (T.stored table.old) next.number next.kept next.winner) }
     ensures marked { T.is_honest table.old → IfOk result (λ next.
-        T.stored table.new ≡ with_processed_alone next.number next.kept (T.stored table.old)) }
+        IsMarked (T.stored table.old) (T.stored table.new) next.number next.kept next.winner) }
     ensures consistent { T.is_honest table.old → IsTable (T.stored table.old) → result ≡ Err Inconsistent → ⊥ }
     ensures ok { OnOk result (IsWritten T.is_honest T.counted T.goes_on table.old table.new) }
     ensures err { IfErr result (IsGivenUp T.goes_on T.fails table.old table.new) }
     ensures takes { T.free table.old ≤ T.free table.new + PAGES_PER_ENTRY }
-    ensures full { T.is_honest table.old → result ≡ Err (StepFault.Table TableFault.TableFull)
-        → (s : ℕ) × (slice_get (T.stored table.old).order (processed_count (T.stored table.old)) ≡ Some s) }
 {
     let counts = table.counts();
     let number = table.settled_at(counts.processed)?;

@@ -1,6 +1,6 @@
 //! Who has the turn, what waits, and what becomes of the record of a predecessor.
 ghost use Rattle.std.specs.Prelude.{◌≡◌, ◌<◌, ◌^◌, ◌-◌, true};
-ghost use Rattle.retrograde.specs.Processing.{has_turn, is_open, is_due as due_for, lowered as lowered_record};
+ghost use Rattle.retrograde.specs.Process.{has_turn, is_open, is_due as due_for, lowered as lowered_record};
 
 use rbg_game::roles::{Player, Role};
 use retrograde::{Record, State};

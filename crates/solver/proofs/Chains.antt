@@ -2,7 +2,7 @@
 use Rattle.std.proofs.Common.{◌≡◌, inl, inr, ℕ, List, [], ◌∷◌, ◌++◌, Option, None, refl, sym, subst}
 use Rattle.std.specs.Prelude.{IsTrue}
 use Rattle.sector_disk.specs.Disk.{Picture, Shown, Disk, MayLeave}
-use Rattle.sector_disk.specs.aid.Moments.{reads_left, still_honest, leaves_at}
+use Rattle.sector_disk.specs.lemmas.Moments.{reads_left, still_honest, leaves_at}
 use Rattle.root_pair.specs.Root.{IsTablePicture}
 use Rattle.game_file.specs.Kept.{Kept, Layout, in_any}
 use Rattle.game_file.specs.State.{State}
@@ -12,12 +12,13 @@ use Rattle.solver.specs.declared.fault.SolverFault.TheVariants.{Disk as DiskFail
 use Rattle.solver.specs.Headline.{IsUnlucky, Reopens, Headline, HeadlineFrom}
 use Rattle.solver.specs.Held.{Holds, IsSound}
 use Rattle.solver.specs.Histories.{Sitting, LeadTo, History, HistoryFrom, was_made, was_left, was_found, was_reopened, was_not_opened}
-use Rattle.solver.specs.aid.Laws.{a_sound_table_is_held}
-use Rattle.solver.specs.Opening.{IsOpened, OpenCause}
+use Rattle.solver.specs.lemmas.Laws.{a_sound_table_is_held}
+use Rattle.solver.specs.Opened.{IsOpened, OpenCause}
 use Rattle.solver.proofs.Prefixes.{what_sittings_lead_to_is_sound, sitting_leads, a_sound_table_is_exact}
 
 -- one sitting more
-lead_more : (sittings : List Sitting) (sitting : Sitting) (old mid new : Option Kept) → LeadTo sittings old mid → LeadTo (sitting ∷ []) mid new → LeadTo (sittings ++ (sitting ∷ [])) old new
+lead_more : (sittings : List Sitting) (sitting : Sitting) (old mid new : Option Kept) → LeadTo sittings old mid
+    → LeadTo (sitting ∷ []) mid new → LeadTo (sittings ++ (sitting ∷ [])) old new
 lead_more [] sitting old mid new same leads = subst (λ (k : Option Kept). LeadTo (sitting ∷ []) k new) same leads
 lead_more (s ∷ sittings) sitting old mid new (begins, (all, (left, may, rest))) leads =
     (begins, (all, (left, may, lead_more sittings sitting left mid new rest leads)))
@@ -45,13 +46,15 @@ module _ (Stores : ℕ → Layout) where
       let now_sound = what_sittings_lead_to_is_sound sittings begins old led sound in
       let same : was.kept ≡ old = opened.only found.honest old (a_sound_table_is_held (in_any Stores) disk.now.contents old stored now_sound) in
       let (kept, leads, stores) =
-      sitting_leads Stores was sitting left sits (still_honest opened.from.goes_on found.honest) (subst (λ (k : Option Kept). IsSound k) (sym same) now_sound) (opened.now found.honest) picture may in
+      sitting_leads Stores was sitting left sits (still_honest opened.from.goes_on found.honest)
+      (subst (λ (k : Option Kept). IsSound k) (sym same) now_sound) (opened.now found.honest) picture may in
       (kept, lead_more sittings sitting begins old kept led (subst (λ (k : Option Kept). LeadTo (sitting ∷ []) k kept) same leads), stores)
   history_leads sound (was_not_opened history found leaves stop) picture may =
       history_leads sound history picture (found.as_left picture (leaves_at leaves stop picture may))
 
   -- a disk that holds a table is opened with it
-  pub opened_so : (disk : Disk) (count : ℕ) (state : State) (kept : Option Kept) → IsTrue disk.honest → Holds (in_any Stores) disk.now.contents kept → IsOpened Stores disk count state
+  pub opened_so : (disk : Disk) (count : ℕ) (state : State) (kept : Option Kept) → IsTrue disk.honest
+      → Holds (in_any Stores) disk.now.contents kept → IsOpened Stores disk count state
       → (state.kept ≡ kept) × LeavesNow (Stores state.capacity) state.disk kept
   opened_so disk count state kept honest holds opened =
       let same = opened.only honest kept holds in
@@ -59,7 +62,8 @@ module _ (Stores : ℕ → Layout) where
 
   module _ (begins : (pages : ℕ) (picture : Picture) (kept : Option Kept) → Stores pages picture kept → IsTablePicture picture) where
     -- or that is refused for want of memory or for a fault of the disk
-    pub opens_or_fails : (disk : Disk) (before now : ℕ) (kept : Option Kept) (fault : SolverFault) → IsTrue disk.honest → Holds (in_any Stores) disk.now.contents kept
+    pub opens_or_fails : (disk : Disk) (before now : ℕ) (kept : Option Kept) (fault : SolverFault) → IsTrue disk.honest
+        → Holds (in_any Stores) disk.now.contents kept
         → OpenCause Stores disk before now fault → IsUnlucky before now fault
     opens_or_fails disk before now kept DiskFailed honest holds cause = inl (refl, cause)
     opens_or_fails disk before now kept NotATable honest holds cause = absurd (cause honest (begins holds.stores.0 disk.now.contents kept holds.stores.1))
@@ -101,5 +105,6 @@ module _ (Stores : ℕ → Layout) where
         (kept, leads, reopens picture kept (a_sound_table_is_held (in_any Stores) picture kept stores now_sound), a_sound_table_is_exact kept now_sound)
 
     -- of a table that was made
-    pub the_headline : (sittings : List Sitting) (left : Shown) (picture : Picture) → History Stores sittings left → MayLeave left picture → Headline Stores sittings picture
+    pub the_headline : (sittings : List Sitting) (left : Shown) (picture : Picture) → History Stores sittings left → MayLeave left picture
+        → Headline Stores sittings picture
     the_headline sittings left picture history may = the_headline_from None sittings left picture tt history may

@@ -3,11 +3,12 @@ use Rattle.std.proofs.Common.{ℕ, ◌+◌, List, [], ◌∷◌, length, subst, 
 use Rattle.std.specs.Prelude.{IsTrue}
 use Rattle.retrograde.specs.Stored.{Stored, IsTable, view_of}
 use Rattle.best_line.specs.Rows.{AreRows}
-use Rattle.best_line.proofs.Joining.{rows_join}
+use Rattle.best_line.proofs.RowLists.{rows_join}
 use Rattle.game_file.specs.State.{State}
 use Rattle.solver.specs.Listings.{Given, IsListed, asked_in, rows_in}
 
-module _ {F Version : Type 0} (state : F → State) (IsVersion : Version → Stored (List ℕ) → F → Type 0) (version : Version) (table : Stored (List ℕ)) (fits : IsTable table) where
+module _ {F Version : Type 0} (state : F → State) (IsVersion : Version → Stored (List ℕ) → F → Type 0) (version : Version)
+    (table : Stored (List ℕ)) (fits : IsTable table) where
   -- no rows are those of none that were asked for
   no_rows : (place : ℕ) → AreRows (view_of table) place 0 []
   no_rows place = record { all = omega arith; numbers = λ k row at. cc; values = λ k row at. cc }

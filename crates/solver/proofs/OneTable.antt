@@ -3,15 +3,15 @@ use Rattle.std.specs.Prelude.{◌≡◌, ◌⊎◌, ℕ, List, [], ◌∷◌, Op
 use Rattle.std.proofs.Common.{sym, subst, ◌∙◌, ap, inl, inr}
 use Rattle.std.proofs.lemmas.Option.{same_Some}
 use Rattle.rbg_game.specs.Games.{Game}
-use Rattle.rbg_read.specs.Reading.{Reads}
-use Rattle.rbg_read.proofs.OneReading.{one_game}
+use Rattle.rbg_read.specs.Reads.{Reads}
+use Rattle.rbg_read.proofs.OneGame.{one_game}
 use Rattle.position_pack.specs.declared.kind.PackingKind.TheVariants.{Bits}
 use Rattle.legal_moves.specs.Sources.{graph_of}
 use Rattle.retrograde.specs.Sound.{IsLocallySound}
 use Rattle.retrograde.specs.Stored.{loaded}
 use Rattle.retrograde.specs.declared.records.Counts.{Counts}
 use Rattle.game_table.specs.Work.{AreDone}
-use Rattle.game_table.specs.aid.Laws.{work_leads_to_one_table}
+use Rattle.game_table.specs.lemmas.Laws.{work_leads_to_one_table}
 use Rattle.game_file.specs.Kept.{Kept}
 use Rattle.solver.specs.declared.replies.Reply.{Reply}
 use Rattle.solver.specs.declared.replies.Reply.TheVariants.{Loaded, Worked, Refused}
@@ -46,7 +46,8 @@ works_to_one units n m few many old a b sound one other =
         let to_after : AreDone (graph_in game was) (wide_in game was) units was.table m after.table =
         subst (λ (k : Kept). ((g : Game) → Reads k.text g → IsLocallySound (graph_in g k) (wide_in g k) k.table
         → AreDone (graph_in g k) (wide_in g k) units k.table m after.table)) (sym same) makes game is_read here in
-        let tables = (work_leads_to_one_table (graph_in game was) (wide_in game was) units n m was.table is.table after.table (does game is_read here) to_after).1 in
+        let tables = (work_leads_to_one_table (graph_in game was) (wide_in game was) units n m was.table is.table after.table
+        (does game is_read here) to_after).1 in
         λ i. record {
           text = (text ∙ ap (λ (k : Kept). k.text) same ∙ sym also) i;
           packing = (packing ∙ ap (λ (k : Kept). k.packing) same ∙ sym packed) i;

@@ -3,13 +3,13 @@ use Rattle.std.proofs.Common.{◌≡◌, ◌⊎◌, inl, inr, ℕ, ◌≤◌, �
 use Rattle.std.specs.Prelude.{IsTrue}
 use Rattle.std.proofs.lemmas.Bool.{cases_lt}
 use Rattle.sector_disk.specs.Disk.{Picture, Shown, GoesOn, MayLeave, StopsIn, at_moment, at_present}
-use Rattle.sector_disk.specs.aid.Moments.{still_honest, goes_on_refl, goes_on_trans, leaves_at, leaves_now}
-use Rattle.rbg_read.specs.Reading.{Reads}
+use Rattle.sector_disk.specs.lemmas.Moments.{still_honest, goes_on_refl, goes_on_trans, leaves_at, leaves_now}
+use Rattle.rbg_read.specs.Reads.{Reads}
 use Rattle.position_pack.specs.declared.kind.PackingKind.{PackingKind}
 use Rattle.position_pack.specs.declared.kind.PackingKind.TheVariants.{Bits}
 use Rattle.legal_moves.specs.Sources.{IsWideAt, graph_of}
 use Rattle.retrograde.specs.Sound.{IsLocallySound}
-use Rattle.game_table.specs.aid.Laws.{a_first_table_is_sound}
+use Rattle.game_table.specs.lemmas.Laws.{a_first_table_is_sound}
 use Rattle.game_file.specs.Kept.{Kept, Layout, in_any}
 use Rattle.game_file.specs.State.{State}
 use Rattle.game_file.specs.Stops.{LeavesNow}
@@ -20,8 +20,8 @@ use Rattle.solver.specs.declared.replies.Reply.TheVariants.{Loaded, Worked, Refu
 use Rattle.solver.specs.Held.{Holds, IsSound}
 use Rattle.solver.specs.Headline.{IsExact, IsAnsweredBy, LeavesAPrefix}
 use Rattle.solver.specs.Histories.{Sitting, DoAll, DoesInDoubt, LeadTo, IsUsed, no_call, a_question, a_command, a_growth, Ends, by_closing, in_a_question, in_a_growth, in_a_command, IsSitting}
-use Rattle.solver.specs.aid.Laws.{a_sound_table_is_held, what_is_settled_is_won, finished_is_all, finished_leaves_the_drawn}
-use Rattle.solver.specs.Growing.{IsGrowth}
+use Rattle.solver.specs.lemmas.Laws.{a_sound_table_is_held, what_is_settled_is_won, finished_is_all, finished_leaves_the_drawn}
+use Rattle.solver.specs.Growth.{IsGrowth}
 use Rattle.solver.specs.Machine.{Command, load, work, Does, MayDo}
 use Rattle.solver.specs.Runs.{command_of, IsTurn, IsTurnWithCause, Turns, IsRun}
 
@@ -41,7 +41,8 @@ a_sound_table_is_exact (Some kept) (game, is_read, sound) =
 
 -- what a command may do to a sound table leaves it sound
 does_sound : (reply : Reply) (command : Command) (old new : Option Kept) → Does reply command old new → IsSound old → IsSound new
-does_sound Loaded (load text goal) old new loads sound = subst (λ (k : Option Kept). IsSound k) (sym loads.is) (loads.game, loads.reads, a_first_table_is_sound Bits goal loads.game)
+does_sound Loaded (load text goal) old new loads sound = subst (λ (k : Option Kept). IsSound k) (sym loads.is)
+    (loads.game, loads.reads, a_first_table_is_sound Bits goal loads.game)
 does_sound Loaded (work units) old new does sound = absurd does
 does_sound (Worked done counts) (load text goal) old new does sound = absurd does
 does_sound (Worked done counts) (work units) old new works sound =
@@ -50,7 +51,8 @@ does_sound (Worked done counts) (work units) old new works sound =
       game,
       subst (λ (text : List ℕ). Reads text game) (sym works.same_text) is_read,
       subst (λ (packing : PackingKind). IsLocallySound (graph_of packing works.is.goal game) (IsWideAt packing game) works.is.table) (sym works.same_packing)
-          (subst (λ (goal : Option ℕ). IsLocallySound (graph_of works.was.packing goal game) (IsWideAt works.was.packing game) works.is.table) (sym works.same_goal)
+          (subst (λ (goal : Option ℕ). IsLocallySound (graph_of works.was.packing goal game)
+          (IsWideAt works.was.packing game) works.is.table) (sym works.same_goal)
           (works.work game is_read here).sound),
     )
 does_sound (Refused fault) command old new same sound = subst (λ (k : Option Kept). IsSound k) (sym same) sound
@@ -71,11 +73,13 @@ may_sound (Some command) old new may sound = what_may_be_done_is_sound command o
 pub what_sittings_lead_to_is_sound : (sittings : List Sitting) (old new : Option Kept) → LeadTo sittings old new → IsSound old → IsSound new
 what_sittings_lead_to_is_sound [] old new same sound = subst (λ (k : Option Kept). IsSound k) (sym same) sound
 what_sittings_lead_to_is_sound (sitting ∷ sittings) old new (begins, (all, (left, may, rest))) sound =
-    what_sittings_lead_to_is_sound sittings left new rest (may_sound sitting.in_doubt sitting.reached left may (all_sound sitting.answered old sitting.reached all sound))
+    what_sittings_lead_to_is_sound sittings left new rest
+    (may_sound sitting.in_doubt sitting.reached left may (all_sound sitting.answered old sitting.reached all sound))
 
 module _ (Stores : ℕ → Layout) where
   -- a solver that is open was open before
-  turn_open : (b : Bool) (command : Command) (reply : Reply) (was is : State) → IsTurn Stores command reply was is → is.closed ≡ false → was.closed ≡ b → was.closed ≡ false
+  turn_open : (b : Bool) (command : Command) (reply : Reply) (was is : State) → IsTurn Stores command reply was is → is.closed ≡ false
+      → was.closed ≡ b → was.closed ≡ false
   turn_open false command reply was is turn open_ its_state = its_state
   turn_open true command reply was is turn open_ its_state = sym (ap (λ (s : State). s.closed) (turn.shut its_state).1) ∙ open_
 
@@ -96,7 +100,8 @@ module _ (Stores : ℕ → Layout) where
     leaves : LeavesNow (Stores state.capacity) state.disk state.kept
 
   -- commands that were answered have done what their replies say
-  used_does : {answered : List (Command × Reply)} {was is : State} → IsUsed Stores answered was is → is.closed ≡ false → IsFit was → DoAll answered was.kept is.kept × IsFit is
+  used_does : {answered : List (Command × Reply)} {was is : State} → IsUsed Stores answered was is → is.closed ≡ false → IsFit was
+      → DoAll answered was.kept is.kept × IsFit is
   used_does no_call open_ fit = (refl, fit)
   used_does (a_question {answered} {was} {mid} {is} asked rest) open_ fit =
       let was_open = sym asked.closed ∙ used_open rest open_ in
@@ -143,7 +148,8 @@ module _ (Stores : ℕ → Layout) where
     may : DoesInDoubt in_doubt last.kept kept
     stores : Stores pages picture kept
 
-  either : (command : Command) (last : State) (next : Option Kept) (picture : Picture) → MayDo command last.kept next → Stores last.capacity picture last.kept ⊎ Stores last.capacity picture next
+  either : (command : Command) (last : State) (next : Option Kept) (picture : Picture) → MayDo command last.kept next
+      → Stores last.capacity picture last.kept ⊎ Stores last.capacity picture next
       → (kept : Option Kept) × IsLeft (Some command) last last.capacity picture kept
   either command last next picture does (inl stores) = (last.kept, record { may = (Refused DiskFailed, refl); stores = stores })
   either command last next picture does (inr stores) = (next, record { may = does; stores = stores })
@@ -195,7 +201,8 @@ module _ (Stores : ℕ → Layout) where
     stores : Stores pages picture kept
     as_many : (IsInAGrowth it.ends → ⊥) → pages ≡ it.last.capacity
 
-  led_to : (was : State) (sitting : Sitting) (left : Shown) (it : IsSitting Stores was sitting left) → IsTrue was.disk.honest → IsSound was.kept → LeavesNow (Stores was.capacity) was.disk was.kept
+  led_to : (was : State) (sitting : Sitting) (left : Shown) (it : IsSitting Stores was sitting left) → IsTrue was.disk.honest
+      → IsSound was.kept → LeavesNow (Stores was.capacity) was.disk was.kept
       → (picture : Picture) → MayLeave left picture → IsLedTo was sitting left it picture
   led_to was sitting left it honest sound leaves picture may =
       let (all, fit) = used_does it.used it.is_open (record { honest = honest; sound = sound; leaves = leaves }) in
@@ -203,21 +210,30 @@ module _ (Stores : ℕ → Layout) where
       record {
         kept = behind.kept;
         pages = behind.pages;
-        leads = (it.begins, (subst (λ (k : Option Kept). DoAll sitting.answered was.kept k) (sym it.reached) all, (behind.kept, subst (λ (k : Option Kept). DoesInDoubt sitting.in_doubt k behind.kept) (sym it.reached) behind.is.may, refl)));
+        leads = (
+          it.begins,
+          (
+            subst (λ (k : Option Kept). DoAll sitting.answered was.kept k) (sym it.reached) all,
+            (behind.kept, subst (λ (k : Option Kept). DoesInDoubt sitting.in_doubt k behind.kept) (sym it.reached) behind.is.may, refl),
+          ),
+        );
         stores = behind.is.stores;
         as_many = behind.as_many;
       }
 
-  pub sitting_leads : (was : State) (sitting : Sitting) (left : Shown) → IsSitting Stores was sitting left → IsTrue was.disk.honest → IsSound was.kept → LeavesNow (Stores was.capacity) was.disk was.kept
+  pub sitting_leads : (was : State) (sitting : Sitting) (left : Shown) → IsSitting Stores was sitting left → IsTrue was.disk.honest
+      → IsSound was.kept → LeavesNow (Stores was.capacity) was.disk was.kept
       → (picture : Picture) → MayLeave left picture → (kept : Option Kept) × LeadTo (sitting ∷ []) was.kept kept × in_any Stores picture kept
   sitting_leads was sitting left it honest sound leaves picture may =
       let led = led_to was sitting left it honest sound leaves picture may in
       (led.kept, led.leads, (led.pages, led.stores))
 
   -- what is left of one in which nothing grows holds the table in as many pages, and what that says is so
-  sitting_holds : (was : State) (sitting : Sitting) (left : Shown) (it : IsSitting Stores was sitting left) → it.last.capacity ≡ was.capacity → (IsInAGrowth it.ends → ⊥)
+  sitting_holds : (was : State) (sitting : Sitting) (left : Shown) (it : IsSitting Stores was sitting left)
+      → it.last.capacity ≡ was.capacity → (IsInAGrowth it.ends → ⊥)
       → IsTrue was.disk.honest → IsSound was.kept → LeavesNow (Stores was.capacity) was.disk was.kept
-      → (picture : Picture) → MayLeave left picture → (kept : Option Kept) × LeadTo (sitting ∷ []) was.kept kept × Holds (Stores was.capacity) picture kept × IsExact kept
+      → (picture : Picture) → MayLeave left picture → (kept : Option Kept) × LeadTo (sitting ∷ []) was.kept kept
+      × Holds (Stores was.capacity) picture kept × IsExact kept
   sitting_holds was sitting left it steady apart honest sound leaves picture may =
       let led = led_to was sitting left it honest sound leaves picture may in
       let sound_now = what_sittings_lead_to_is_sound (sitting ∷ []) was.kept led.kept led.leads sound in
@@ -248,8 +264,10 @@ module _ (Stores : ℕ → Layout) where
     steady : sits.last.capacity ≡ was.capacity
     apart : IsInAGrowth sits.ends → ⊥
 
-  cut_before : (moment : ℕ) (command : Command) (commands : List Command) (reply : Reply) (replies : List Reply) (was mid is : State) (left : Shown) → was.closed ≡ false
-      → IsTurnWithCause Stores command reply was mid → (moment < mid.disk.clock) ⊎ (mid.closed ≡ true) → Turns Stores commands replies mid is → (ends : Ends Stores was (Some command) left)
+  cut_before : (moment : ℕ) (command : Command) (commands : List Command) (reply : Reply) (replies : List Reply) (was mid is : State)
+      (left : Shown) → was.closed ≡ false
+      → IsTurnWithCause Stores command reply was mid → (moment < mid.disk.clock) ⊎ (mid.closed ≡ true)
+      → Turns Stores commands replies mid is → (ends : Ends Stores was (Some command) left)
       → (IsInAGrowth ends → ⊥) → IsCut moment (command ∷ commands) (reply ∷ replies) was is left
   cut_before moment command commands reply replies was mid is left open_ turn later rest ends apart = record {
     sitting = record { begins = was.kept; answered = []; reached = was.kept; in_doubt = Some command };
@@ -265,7 +283,14 @@ module _ (Stores : ℕ → Layout) where
   cut_behind moment command commands reply replies was mid is left turn by_then open_ cut = record {
     sitting = record { begins = was.kept; answered = (command, reply) ∷ cut.sitting.answered; reached = cut.sitting.reached; in_doubt = cut.sitting.in_doubt };
     part = (refl, refl, (mid, turn, by_then, open_, cut.part));
-    sits = record { begins = refl; last = cut.sits.last; reached = cut.sits.reached; used = a_command turn.turn cut.sits.used; is_open = cut.sits.is_open; ends = cut.sits.ends };
+    sits = record {
+      begins = refl;
+      last = cut.sits.last;
+      reached = cut.sits.reached;
+      used = a_command turn.turn cut.sits.used;
+      is_open = cut.sits.is_open;
+      ends = cut.sits.ends;
+    };
     steady = cut.steady ∙ turn.turn.ahead.capacity;
     apart = cut.apart;
   }

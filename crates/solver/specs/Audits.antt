@@ -1,6 +1,6 @@
 -- What an audit of the table says, and why it says nothing.
 use Rattle.rbg_game.specs.Games.{Game}
-use Rattle.rbg_read.specs.Reading.{Reads}
+use Rattle.rbg_read.specs.Reads.{Reads}
 use Rattle.retrograde.specs.Stored.{view_of}
 use Rattle.audit.specs.Answers.{IsAnswer, IsTableSo}
 use Rattle.audit.specs.Causes.{HasWide}

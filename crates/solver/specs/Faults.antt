@@ -1,6 +1,7 @@
--- What a fault of a layer below is here, and the code of each.
+-- What a fault of a layer below is here, and the code and the exit status of each.
 use Rattle.std.specs.Prelude.{ℕ, List, codes}
 use Rattle.rbg_read.specs.Codes.{fault_code}
+use Rattle.rbg_read.specs.declared.fault.GameFault.TheVariants as game
 use Rattle.table.specs.declared.fault.TableFault.{TableFault}
 use Rattle.table.specs.declared.fault.TableFault.TheVariants as table
 use Rattle.frontier.specs.declared.fault.StepFault.{StepFault}
@@ -85,3 +86,11 @@ code_of NoSuchPosition = codes "S7"
 code_of NotSettled = codes "S8"
 code_of ListingsUsedUp = codes "S9"
 code_of BadPosition = codes "S10"
+
+-- the exit status: 3 for a damaged table, 4 where the device failed, 5 for want of memory, and else 1
+abbrev pub status_of : SolverFault → ℕ
+status_of Damaged = 3
+status_of Disk = 4
+status_of OutOfMemory = 5
+status_of (Game game.OutOfMemory) = 5
+status_of _ = 1

@@ -3,7 +3,7 @@ use Rattle.std.specs.Prelude.{◌≡◌, ◌⊎◌, ◌↔◌, ℕ, ◌≤◌, �
 use Rattle.sector_disk.specs.Disk.{Picture, Shown, Disk, MayLeave, StopsIn, Grew}
 use Rattle.rbg_game.specs.Games.{Game}
 use Rattle.rbg_game.specs.declared.roles.Player.{Player}
-use Rattle.rbg_read.specs.Reading.{Reads}
+use Rattle.rbg_read.specs.Reads.{Reads}
 use Rattle.retrograde.specs.Graph.{IsReachable}
 use Rattle.retrograde.specs.Stored.{view_of}
 use Rattle.retrograde.specs.Values.{WonIn, Drawn}
@@ -17,7 +17,7 @@ use Rattle.solver.specs.Held.{Holds, graph_in}
 use Rattle.solver.specs.Histories.{Sitting, LeadTo, IsSitting}
 use Rattle.solver.specs.declared.replies.Reply.{Reply}
 use Rattle.solver.specs.Machine.{Command}
-use Rattle.solver.specs.Opening.{IsOpened, OpenCause}
+use Rattle.solver.specs.Opened.{IsOpened, OpenCause}
 use Rattle.solver.specs.Runs.{IsTurnWithCause, Turns}
 
 -- what the table says is so by the rules of the game that its text reads to: each settled position is won by the named player in
@@ -54,7 +54,7 @@ module _ (Stores : ℕ → Layout) where
   abbrev pub HeadlineFrom : Option Kept → List Sitting → Picture → Type 0
   HeadlineFrom begins sittings picture = (kept : Option Kept) × LeadTo sittings begins kept × Reopens picture kept × IsExact kept
 
-  -- so from the empty one
+  -- the headline of a table that begins empty
   abbrev pub Headline : List Sitting → Picture → Type 0
   Headline = HeadlineFrom None
 

@@ -2,7 +2,7 @@
 use Rattle.std.specs.Prelude.{ℕ, List, Option, None, Some}
 use Rattle.sector_disk.specs.Disk.{Picture}
 use Rattle.rbg_game.specs.Games.{Game}
-use Rattle.rbg_read.specs.Reading.{Reads}
+use Rattle.rbg_read.specs.Reads.{Reads}
 use Rattle.legal_moves.specs.Sources.{IsWideAt, graph_of}
 use Rattle.retrograde.specs.Graph.{Graph}
 use Rattle.retrograde.specs.Sound.{IsLocallySound}

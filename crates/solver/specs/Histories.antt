@@ -5,9 +5,9 @@ use Rattle.game_file.specs.Calls.{IsAsked}
 use Rattle.game_file.specs.Kept.{Kept, Layout, in_any}
 use Rattle.game_file.specs.State.{State}
 use Rattle.solver.specs.declared.replies.Reply.{Reply}
-use Rattle.solver.specs.Growing.{IsGrowth}
+use Rattle.solver.specs.Growth.{IsGrowth}
 use Rattle.solver.specs.Machine.{Command, Does, MayDo}
-use Rattle.solver.specs.Opening.{IsCreated, IsOpened}
+use Rattle.solver.specs.Opened.{IsCreated, IsOpened}
 use Rattle.solver.specs.Runs.{IsTurn}
 
 -- what is known of one sitting: the table that it began with, the commands that were answered, each with its reply, the table behind the
@@ -23,7 +23,7 @@ abbrev pub DoAll : List (Command × Reply) → Option Kept → Option Kept → T
 DoAll [] old new = new ≡ old
 DoAll ((command, reply) ∷ answered) old new = (mid : Option Kept) × Does reply command old mid × DoAll answered mid new
 
--- so may the one in doubt, if there is one: it is done or leaves the table
+-- what the command in doubt may do, if there is one: it is done, or leaves the table as it was
 abbrev pub DoesInDoubt : Option Command → Option Kept → Option Kept → Type 0
 DoesInDoubt None old new = new ≡ old
 DoesInDoubt (Some command) old new = MayDo command old new

@@ -2,7 +2,7 @@
 use Rattle.std.specs.Prelude.{◌≡◌, ◌≢◌, ℕ, ◌<◌, true, List, Option, None, Some, IsSome, IsTrue}
 use Rattle.sector_disk.specs.Disk.{Grew}
 use Rattle.rbg_game.specs.Games.{Game}
-use Rattle.rbg_read.specs.Reading.{Reads, Fault}
+use Rattle.rbg_read.specs.Reads.{Reads, Fault}
 use Rattle.rbg_read.specs.declared.fault.GameFault.{GameFault}
 use Rattle.rbg_read.specs.declared.fault.GameFault.TheVariants as game_fault
 use Rattle.position_pack.specs.declared.kind.PackingKind.TheVariants.{Bits}
@@ -99,7 +99,7 @@ IsShortOfPages units free (Some kept) =
     (game : Game) → Reads kept.text game → IsLocallySound (graph_in game kept) (wide_in game kept) kept.table
     → WantsPages (graph_in game kept) (wide_in game kept) kept.table units free
 
--- so of a command that works
+-- for a command: of one that works; of another nothing is said
 abbrev pub IsCommandShort : Command → ℕ → Option Kept → Type 0
 IsCommandShort (load text goal) free kept = Unit {0}
 IsCommandShort (work units) free kept = IsShortOfPages units free kept

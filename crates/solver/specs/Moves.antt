@@ -1,7 +1,7 @@
 -- The moves of a known position, and why they are not given; and the value of one that is found by its text.
 use Rattle.std.specs.Prelude.{ℕ, List}
 use Rattle.rbg_game.specs.Games.{Game}
-use Rattle.rbg_read.specs.Reading.{Reads}
+use Rattle.rbg_read.specs.Reads.{Reads}
 use Rattle.legal_moves.specs.Sources.{IsPositionBytes}
 use Rattle.retrograde.specs.Stored.{view_of}
 use Rattle.retrograde.specs.View.{HasNumber}

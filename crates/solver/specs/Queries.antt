@@ -2,7 +2,7 @@
 use Rattle.std.specs.Prelude.{◌≡◌, ◌<◌, ◌≤◌, ℕ, List, length, true, false, Option, None, Some, IsTrue, IfSome}
 use Rattle.sector_disk.specs.Disk.{Grew}
 use Rattle.rbg_game.specs.Games.{Game}
-use Rattle.rbg_read.specs.Reading.{Reads}
+use Rattle.rbg_read.specs.Reads.{Reads}
 use Rattle.retrograde.specs.Stored.{view_of}
 use Rattle.retrograde.specs.View.{HasNumber}
 use Rattle.game_table.specs.Texts.{IsText}
@@ -24,7 +24,7 @@ abbrev pub OfKept : (Kept → Type 0) → Option Kept → Type 0
 OfKept Such None = ⊥
 OfKept Such (Some kept) = Such kept
 
--- the same of the table of a state, where the disk is honest
+-- it is so of the table that a state keeps, where the disk is honest
 abbrev pub Tells : (Kept → Type 0) → State → Type 0
 Tells Such state = IsTrue state.disk.honest → OfKept Such state.kept
 

@@ -1,6 +1,6 @@
 -- What a solver is between commands.
 use Rattle.std.specs.Prelude.{◌≡◌, Option, None, Some, IsTrue}
-use Rattle.rbg_read.specs.Reading.{Reads}
+use Rattle.rbg_read.specs.Reads.{Reads}
 use Rattle.legal_moves.specs.declared.compiled.Compiled.{Compiled}
 use Rattle.legal_moves.specs.Compiled.{compiled_game, packing_kind, compiled_goal}
 use Rattle.game_file.specs.Kept.{Kept}

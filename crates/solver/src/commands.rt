@@ -4,15 +4,12 @@ ghost use Rattle.std.specs.Prelude.{IsSome, IsOk, OnOk, IfOk, IfErr, IsErrOf, Is
 ghost use Rattle.sector_disk.specs.Disk.{Picture};
 ghost use Rattle.retrograde.specs.Changes.{counts_of};
 ghost use Rattle.rbg_game.specs.Goals.{points_of};
-ghost use Rattle.game_file.specs.Kept.{Kept, in_any};
-ghost use Rattle.game_file.specs.Calls.{IsNotOpened, IsNotCreated};
+ghost use Rattle.game_file.specs.Kept.{Kept};
+ghost use Rattle.game_file.specs.Calls.{IsNotCreated};
 ghost use Rattle.game_file.specs.State.{GoesAhead};
-ghost use Rattle.game_file.specs.Stops.{LeavesNow};
-ghost use Rattle.solver.specs.Headline.{IsUnlucky};
-ghost use Rattle.solver.specs.Held.{Holds, IsSound};
-ghost use Rattle.solver.specs.Machine.{load as load_it, work as work_on, LoadCause, IsShortOfPages};
-ghost use Rattle.solver.specs.Opening.{IsOpened, IsCreated, OpenCause, LayoutCause, CreateCause};
-ghost use Rattle.solver.specs.Steps.{IsDone, IsRefused};
+ghost use Rattle.solver.specs.Machine.{load as load_it, work as work_on, LoadCause};
+ghost use Rattle.solver.specs.Opened.{IsCreated, CreateCause};
+ghost use Rattle.solver.specs.Steps.{IsDone};
 ghost use Rattle.solver.specs.Units.{units_in};
 
 use crate::needs::game_in;
@@ -40,6 +37,7 @@ pub struct FileSolver<F: GameFile> {
 }
 
 impl<F: GameFile> FileSolver<F> {
+    ghost use Rattle.solver.specs.Frames.{HasNoGame, NeedsNoGame, IsNotOpenedFor, IsOpenedOn, IsLeft, IsNotLoaded, IsNotWorked};
     ghost use Rattle.solver.specs.Solvers.{state, IsReady};
 
     /// Makes the empty table on this disk: E1, E3 and then E6, E8.
@@ -63,17 +61,9 @@ impl<F: GameFile> FileSolver<F> {
     /// Opens the table that this disk holds: E1, E2, E4, E5, E8. Where it holds one, that is the one that is given, and only a failure
     /// of the disk or want of memory can refuse it.
     pub fn open(alloc: Global, disk: F::Device) -> Result<Self, Refused<F::Device>>
-        ensures ready { IfOk result IsReady }
-        ensures opened { IfOk result (λ solver. IsOpened F.stores (F.Device.disk disk) (F.Device.failures disk) (state solver)) }
-        ensures gives { (kept : Option Kept) → IsTrue (F.Device.disk disk).honest → Holds (in_any F.stores) (F.Device.disk disk).now.contents kept
-            → IfOk result (λ solver. ((state solver).kept ≡ kept) × LeavesNow (F.stores (state solver).capacity) (state solver).disk kept) }
-        ensures unlucky { (kept : Option Kept) → IsTrue (F.Device.disk disk).honest → Holds (in_any F.stores) (F.Device.disk disk).now.contents kept
-            → IfErr result (λ back. IsUnlucky (F.Device.failures disk) (F.Device.failures back.disk) back.fault) }
-        ensures refused { IfErr result (λ back. IsNotOpened (F.Device.disk disk) (F.Device.failures disk) (F.Device.disk back.disk)
-            (F.Device.failures back.disk)) }
-        ensures cause { IfErr result (λ back. OpenCause F.stores (F.Device.disk disk) (F.Device.failures disk)
-            (F.Device.failures back.disk) back.fault) }
-        ensures older { IfErr result (λ back. LayoutCause F.is_older (F.Device.disk disk) back.fault) }
+        ensures ok { IfOk result (IsOpenedOn (F.Device.disk disk) (F.Device.failures disk)) }
+        ensures err { IfErr result (λ back. IsNotOpenedFor F.stores F.is_older (F.Device.disk disk) (F.Device.failures disk)
+            (F.Device.disk back.disk) (F.Device.failures back.disk) back.fault) }
     {
         FileSolver::open_with_cache(alloc, disk, MOST_CACHED)
     }
@@ -86,17 +76,9 @@ impl<F: GameFile> FileSolver<F> {
         pages: usize,
     ) -> Result<Self, Refused<F::Device>>
         requires { pages ≤ 64 }
-        ensures ready { IfOk result IsReady }
-        ensures opened { IfOk result (λ solver. IsOpened F.stores (F.Device.disk disk) (F.Device.failures disk) (state solver)) }
-        ensures gives { (kept : Option Kept) → IsTrue (F.Device.disk disk).honest → Holds (in_any F.stores) (F.Device.disk disk).now.contents kept
-            → IfOk result (λ solver. ((state solver).kept ≡ kept) × LeavesNow (F.stores (state solver).capacity) (state solver).disk kept) }
-        ensures unlucky { (kept : Option Kept) → IsTrue (F.Device.disk disk).honest → Holds (in_any F.stores) (F.Device.disk disk).now.contents kept
-            → IfErr result (λ back. IsUnlucky (F.Device.failures disk) (F.Device.failures back.disk) back.fault) }
-        ensures refused { IfErr result (λ back. IsNotOpened (F.Device.disk disk) (F.Device.failures disk) (F.Device.disk back.disk)
-            (F.Device.failures back.disk)) }
-        ensures cause { IfErr result (λ back. OpenCause F.stores (F.Device.disk disk) (F.Device.failures disk)
-            (F.Device.failures back.disk) back.fault) }
-        ensures older { IfErr result (λ back. LayoutCause F.is_older (F.Device.disk disk) back.fault) }
+        ensures ok { IfOk result (IsOpenedOn (F.Device.disk disk) (F.Device.failures disk)) }
+        ensures err { IfErr result (λ back. IsNotOpenedFor F.stores F.is_older (F.Device.disk disk) (F.Device.failures disk)
+            (F.Device.disk back.disk) (F.Device.failures back.disk) back.fault) }
     {
         match F::open_with_cache(alloc, disk, pages) {
             Ok(file) => with_game(alloc, file),
@@ -109,12 +91,8 @@ impl<F: GameFile> FileSolver<F> {
 
     /// Whether a game may be loaded: E9, S2.
     fn needs_no_game(&self) -> Result<(), SolverFault>
-        ensures open { OnOk result ((state self.now).closed ≡ false) }
-        ensures none { OnOk result ((state self.now).kept ≡ None) }
-        ensures closed { (state self.now).closed ≡ true → IsErrOf result SolverFault.Closed }
-        ensures already { (state self.now).closed ≡ false
-            → IsSome (state self.now).kept
-            → IsErrOf result SolverFault.GameAlready }
+        ensures ok { OnOk result (HasNoGame (state self.now)) }
+        ensures first { NeedsNoGame result (state self.now) }
         ensures free { (state self.now).closed ≡ false → (state self.now).kept ≡ None → IsOk result }
         ensures cause { (text : List ℕ) → IfErr result (LoadCause text (state self.now) (state self.now)) }
     {
@@ -129,22 +107,11 @@ impl<F: GameFile> FileSolver<F> {
 
     /// Loads the game of this text with this goal, if there is one: E9, S2, then G1 to G10, then E1, E7, E8.
     pub fn load(&mut self, text: &[u8], goal: Option<Goal>) -> Result<(), SolverFault>
-        ensures ready { IsReady self.old → IsReady self.new }
-        ensures lasts { F.lasts self.old.file self.new.file }
-        ensures ahead { GoesAhead (state self.old) (state self.new) }
         ensures done { IsReady self.old
             → OnOk result (IsDone F.stores (load_it text.now (points_of goal)) Reply.Loaded (state self.old)
             (state self.new)) }
-        ensures refused { IsReady self.old
-            → IfErr result (IsRefused F.stores (load_it text.now (points_of goal)) (state self.old)
-            (state self.new)) }
-        ensures closed { (state self.old).closed ≡ true → IsErrOf result SolverFault.Closed × (self.new ≡ self.old) }
-        ensures already { (state self.old).closed ≡ false
-            → IsSome (state self.old).kept
-            → IsErrOf result SolverFault.GameAlready × (self.new ≡ self.old) }
-        ensures sound { IsReady self.old → IsTrue (state self.old).disk.honest
-            → IsSound (state self.old).kept
-            → IsSound (state self.new).kept }
+        ensures left { IsLeft self.old self.new GoesAhead }
+        ensures err { IsNotLoaded self.old self.new text.now (points_of goal) result }
     {
         self.needs_no_game()?;
         let source = Source::read(self.alloc, text, PackingKind::Bits, goal)?;
@@ -157,26 +124,12 @@ impl<F: GameFile> FileSolver<F> {
     /// Does this many units of work, or fewer where the table is finished by then, and commits them at once: E9, S1,
     /// then S3 to S6, E1, E7, E8. Where no unit is done nothing is committed.
     pub fn work(&mut self, units: Units) -> Result<Worked, SolverFault>
-        ensures ready { IsReady self.old → IsReady self.new }
-        ensures lasts { F.lasts self.old.file self.new.file }
-        ensures ahead { GoesAhead (state self.old) (state self.new) }
         ensures done { IsReady self.old → IfOk result (λ done.
             IsDone F.stores (work_on (units_in units)) (Reply.Worked done.units done.counts) (state self.old)
             (state self.new)) }
-        ensures refused { IsReady self.old
-            → IfErr result (IsRefused F.stores (work_on (units_in units)) (state self.old)
-            (state self.new)) }
-        ensures closed { (state self.old).closed ≡ true → IsErrOf result SolverFault.Closed × (self.new ≡ self.old) }
-        ensures no_game { (state self.old).closed ≡ false
-            → (state self.old).kept ≡ None
-            → IsErrOf result SolverFault.NoGame × (self.new ≡ self.old) }
         ensures idle { IfOk result (λ done. done.units ≡ 0 → self.new ≡ self.old) }
-        ensures full { IsReady self.old → IsTrue (state self.old).disk.honest
-            → IfErr result (λ fault. fault ≡ SolverFault.TableFull
-            → IsShortOfPages (units_in units) (F.free self.old.file) (state self.old).kept) }
-        ensures sound { IsReady self.old → IsTrue (state self.old).disk.honest
-            → IsSound (state self.old).kept
-            → IsSound (state self.new).kept }
+        ensures left { IsLeft self.old self.new GoesAhead }
+        ensures err { IsNotWorked self.old self.new (units_in units) (F.free self.old.file) result }
     {
         let source = game_in(&self.file, &self.source)?;
         let done = match source.work(self.alloc, &mut self.file, units.count()) {

@@ -84,7 +84,7 @@ pub struct Refused<D> {
 
 impl SolverFault {
     ghost use Rattle.std.specs.Prelude.{◌≡◌};
-    ghost use Rattle.solver.specs.Faults.{code_of};
+    ghost use Rattle.solver.specs.Faults.{code_of, status_of};
 
     /// The code that is printed.
     pub fn code(self) -> &'static str
@@ -111,6 +111,18 @@ impl SolverFault {
             SolverFault::NotSettled => "S8",
             SolverFault::ListingsUsedUp => "S9",
             SolverFault::BadPosition => "S10",
+        }
+    }
+
+    /// The exit status: 3 for a damaged table, 4 where the device failed, 5 for want of memory, else 1.
+    pub fn status(self) -> u8
+        ensures { result ≡ status_of self }
+    {
+        match self {
+            SolverFault::Damaged => 3,
+            SolverFault::Disk => 4,
+            SolverFault::OutOfMemory | SolverFault::Game(GameFault::OutOfMemory) => 5,
+            _ => 1,
         }
     }
 }

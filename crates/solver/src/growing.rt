@@ -1,15 +1,14 @@
 //! A table that is full gets more pages.
-ghost use Rattle.std.specs.Prelude.{◌≡◌, ◌≢◌, ◌+◌, ◌<◌, true, false, None, OnOk, OnErr, IfErr, IsErrOf, IsTrue};
-ghost use Rattle.game_file.specs.Growing.{GrowsAhead, IsNoGrowth, IsGrownFile, IsNotGrown};
-ghost use Rattle.game_file.specs.Stops.{LeavesNow};
-ghost use Rattle.solver.specs.Growing.{GrowthCause, IsGrowth};
-ghost use Rattle.solver.specs.Held.{IsSound};
+ghost use Rattle.std.specs.Prelude.{◌≡◌, ◌+◌, ◌<◌, false, None, OnOk};
+ghost use Rattle.game_file.specs.Growth.{GrowsAhead, IsGrownFile};
+ghost use Rattle.solver.specs.Growth.{IsGrowth};
 
 use crate::SolverFault;
 use crate::commands::FileSolver;
 use game_file::GameFile;
 
 impl<F: GameFile> FileSolver<F> {
+    ghost use Rattle.solver.specs.Frames.{IsLeft, IsNotGrownFor};
     ghost use Rattle.solver.specs.Solvers.{state, IsReady};
 
     /// How many pages the file has. It takes no memory and always answers, of a closed solver too.
@@ -33,20 +32,10 @@ impl<F: GameFile> FileSolver<F> {
     /// 1,048,576, and then E1, E8. It needs no game. The new pages are free from the commit on. After a stop or a refusal the disk may be
     /// longer than that many pages take, which is no fault.
     pub fn grow(&mut self, pages: u32) -> Result<(), SolverFault>
-        ensures ready { IsReady self.old → IsReady self.new }
-        ensures lasts { F.lasts self.old.file self.new.file }
-        ensures ahead { GrowsAhead (state self.old) (state self.new) }
         ensures grown { IsReady self.old → OnOk result (IsGrownFile F.stores pages (state self.old) (state self.new)) }
-        ensures refused { IsReady self.old → OnErr result (IsNotGrown F.stores pages (state self.old) (state self.new)) }
         ensures growth { IsReady self.old → IsGrowth F.stores pages (state self.old) (state self.new) }
-        ensures cause { IfErr result (GrowthCause pages (state self.old) (state self.new)) }
-        ensures closed { (state self.old).closed ≡ true → IsErrOf result SolverFault.Closed × (self.new ≡ self.old) }
-        ensures small { (state self.old).closed ≡ false → IsNoGrowth pages (state self.old).capacity
-            → IsErrOf result SolverFault.TooSmall × (self.new ≡ self.old) }
-        ensures still { IfErr result (λ fault. fault ≢ SolverFault.Disk → (state self.new).closed ≡ (state self.old).closed) }
-        ensures sound { IsReady self.old → IsTrue (state self.old).disk.honest
-            → IsSound (state self.old).kept
-            → IsSound (state self.new).kept }
+        ensures left { IsLeft self.old self.new GrowsAhead }
+        ensures err { IsNotGrownFor self.old self.new pages result }
     {
         self.file.grow(pages)?;
         Ok(())

@@ -3,7 +3,7 @@ ghost use Rattle.std.specs.Prelude.{◌≡◌, ◌⊎◌, ◌↔◌, ℕ, true, 
 ghost use Rattle.sector_disk.specs.Disk.{Picture, Shown, Disk, MayLeave};
 ghost use Rattle.rbg_game.specs.Games.{Game};
 ghost use Rattle.rbg_game.specs.declared.roles.Player.{Player};
-ghost use Rattle.rbg_read.specs.Reading.{Reads};
+ghost use Rattle.rbg_read.specs.Reads.{Reads};
 ghost use Rattle.retrograde.specs.Changes.{counts_of};
 ghost use Rattle.retrograde.specs.Graph.{IsReachable};
 ghost use Rattle.retrograde.specs.Right.{IsRight};
@@ -19,7 +19,7 @@ ghost use Rattle.solver.specs.Headline.{Headline, HeadlineFrom};
 ghost use Rattle.solver.specs.Held.{Holds, IsSound, graph_in};
 ghost use Rattle.solver.specs.Histories.{Sitting, DoAll, LeadTo, History, HistoryFrom};
 ghost use Rattle.solver.specs.Machine.{Command, MayDo};
-ghost use Rattle.solver.specs.Opening.{IsOpened};
+ghost use Rattle.solver.specs.Opened.{IsOpened};
 ghost use Rattle.solver.specs.Runs.{IsTurnWithCause};
 ghost use Rattle.solver.specs.Steps.{IsDone, IsRefused};
 ghost use Rattle.solver.specs.declared.fault.SolverFault.{SolverFault};

@@ -1,6 +1,6 @@
 //! The moves of a known position, and the value of one that is found by its text.
-ghost use Rattle.std.specs.Prelude.{◌≡◌, true, false, None, IfOk, IfErr, IsErrOf};
-ghost use Rattle.game_file.specs.Calls.{IsAsked};
+ghost use Rattle.std.specs.Prelude.{IfOk};
+ghost use Rattle.solver.specs.Frames.{IsOnlyAsked, IsUntold};
 ghost use Rattle.solver.specs.Moves.{HasMoves, HasValueByText, MovesCause};
 ghost use Rattle.solver.specs.Queries.{FindCause, Tells};
 ghost use Rattle.solver.specs.Solvers.{state, IsReady};
@@ -16,14 +16,9 @@ impl<F: GameFile> FileSolver<F> {
     /// yet has no number, and its value is `Open`. A question changes nothing: E9, S1, S7; S4 where the search for the moves of this
     /// position reaches too many configurations. S6 comes only of a table that is not of this program's making.
     pub fn moves(&mut self, number: u32) -> Result<KnownMoves, SolverFault>
-        ensures ready { IsReady self.old → IsReady self.new }
-        ensures lasts { F.lasts self.old.file self.new.file }
-        ensures asked { IsReady self.old → IsAsked F.stores (state self.old) (state self.new) }
         ensures moves { IsReady self.old → IfOk result (λ known. Tells (HasMoves number known) (state self.old)) }
-        ensures cause { IsReady self.old → IfErr result (MovesCause number (state self.old) (state self.new)) }
-        ensures closed { (state self.old).closed ≡ true → IsErrOf result SolverFault.Closed × (self.new ≡ self.old) }
-        ensures no_game { (state self.old).closed ≡ false → (state self.old).kept ≡ None
-            → IsErrOf result SolverFault.NoGame × (self.new ≡ self.old) }
+        ensures left { IsOnlyAsked self.old self.new }
+        ensures err { IsUntold self.old self.new (MovesCause number) result }
     {
         let source = game_at(&self.file, &self.source, number)?;
         Ok(known_moves(self.alloc, source.moves(), &mut self.file, number)?)
@@ -32,14 +27,9 @@ impl<F: GameFile> FileSolver<F> {
     /// The value of the position with this text, by one question: E9, S1, then S10 where it is the text of no position of the game, and
     /// S7 where that position is not known.
     pub fn find_value(&mut self, text: &[u8]) -> Result<Value, SolverFault>
-        ensures ready { IsReady self.old → IsReady self.new }
-        ensures lasts { F.lasts self.old.file self.new.file }
-        ensures asked { IsReady self.old → IsAsked F.stores (state self.old) (state self.new) }
         ensures value { IsReady self.old → IfOk result (λ value. Tells (HasValueByText text.now value) (state self.old)) }
-        ensures cause { IsReady self.old → IfErr result (FindCause text.now (state self.old) (state self.new)) }
-        ensures closed { (state self.old).closed ≡ true → IsErrOf result SolverFault.Closed × (self.new ≡ self.old) }
-        ensures no_game { (state self.old).closed ≡ false → (state self.old).kept ≡ None
-            → IsErrOf result SolverFault.NoGame × (self.new ≡ self.old) }
+        ensures left { IsOnlyAsked self.old self.new }
+        ensures err { IsUntold self.old self.new (FindCause text.now) result }
     {
         let source = game_in(&self.file, &self.source)?;
         let Some(packed) = source.position(text) else {

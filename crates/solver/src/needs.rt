@@ -1,5 +1,6 @@
 //! Whether a solver may be asked and worked on. E9 comes first, then S1.
-ghost use Rattle.std.specs.Prelude.{◌≡◌, ◌<◌, true, false, Some, None, IsSome, IsOk, OnOk, IfOk, IfErr, IsErrOf};
+ghost use Rattle.std.specs.Prelude.{◌≡◌, ◌<◌, false, Some, IsSome, IsOk, OnOk, IfOk, IfErr};
+ghost use Rattle.solver.specs.Frames.{HasGame, NeedsGame};
 ghost use Rattle.solver.specs.Queries.{AskCause, NumberCause};
 ghost use Rattle.solver.specs.State.{IsSourceOf};
 
@@ -10,10 +11,8 @@ use table::Table;
 
 /// Whether a game is loaded in an open file: E9, S1.
 pub fn needs_game<F: GameFile>(file: &F) -> Result<(), SolverFault>
-    ensures open { OnOk result ((F.state file.now).closed ≡ false) }
-    ensures some { OnOk result (IsSome (F.state file.now).kept) }
-    ensures closed { (F.state file.now).closed ≡ true → IsErrOf result SolverFault.Closed }
-    ensures no_game { (F.state file.now).closed ≡ false → (F.state file.now).kept ≡ None → IsErrOf result SolverFault.NoGame }
+    ensures ok { OnOk result (HasGame (F.state file.now)) }
+    ensures first { NeedsGame result (F.state file.now) }
     ensures free { (F.state file.now).closed ≡ false → IsSome (F.state file.now).kept → IsOk result }
     ensures cause { IfErr result (AskCause (F.state file.now) (F.state file.now)) }
 {
@@ -31,11 +30,9 @@ pub fn game_in<'a, F: GameFile>(
     file: &F,
     source: &'a Option<Source>,
 ) -> Result<&'a Source, SolverFault>
-    ensures open { OnOk result ((F.state file.now).closed ≡ false) }
-    ensures some { OnOk result (IsSome (F.state file.now).kept) }
+    ensures ok { OnOk result (HasGame (F.state file.now)) }
     ensures game { IfOk result (λ game. source.now ≡ Some game.now) }
-    ensures closed { (F.state file.now).closed ≡ true → IsErrOf result SolverFault.Closed }
-    ensures no_game { (F.state file.now).closed ≡ false → (F.state file.now).kept ≡ None → IsErrOf result SolverFault.NoGame }
+    ensures first { NeedsGame result (F.state file.now) }
     ensures cause { IsSourceOf source.now (F.state file.now).kept → IfErr result (AskCause (F.state file.now) (F.state file.now)) }
 {
     if file.is_closed() {
@@ -54,10 +51,9 @@ pub fn game_at<'a, F: GameFile>(
     number: u32,
 ) -> Result<&'a Source, SolverFault>
     ensures there { OnOk result (number < (F.counted file.now).known) }
-    ensures some { OnOk result (IsSome (F.state file.now).kept) }
+    ensures ok { OnOk result (HasGame (F.state file.now)) }
     ensures game { IfOk result (λ game. source.now ≡ Some game.now) }
-    ensures closed { (F.state file.now).closed ≡ true → IsErrOf result SolverFault.Closed }
-    ensures no_game { (F.state file.now).closed ≡ false → (F.state file.now).kept ≡ None → IsErrOf result SolverFault.NoGame }
+    ensures first { NeedsGame result (F.state file.now) }
     ensures cause { F.is_whole file.now → IsSourceOf source.now (F.state file.now).kept
         → IfErr result (NumberCause number (F.state file.now) (F.state file.now)) }
 {

@@ -1,5 +1,6 @@
 //! Many commands at once.
-ghost use Rattle.std.specs.Prelude.{◌≡◌, ◌+◌, ◌++◌, true, false, List, [], length, map, IsTrue, IsOk, OnOk, OnErr, IfErr};
+ghost use Rattle.std.specs.Prelude.{◌≡◌, ◌+◌, ◌++◌, true, false, List, length, map, IsTrue, OnOk};
+ghost use Rattle.solver.specs.Frames.{IsLeft, IsNotRun};
 ghost use Rattle.solver.specs.Headline.{LeavesAPrefix};
 ghost use Rattle.solver.specs.Held.{IsSound};
 ghost use Rattle.solver.specs.Machine.{IsCommandShort};
@@ -13,17 +14,12 @@ use game_file::GameFile;
 impl<F: GameFile> FileSolver<F> {
     /// The reply to one command, which is done as `load` and `work` do it.
     pub fn answer(&mut self, command: &Command) -> Reply
-        ensures ready { IsReady self.old → IsReady self.new }
-        ensures lasts { F.lasts self.old.file self.new.file }
-        ensures ahead { GoesAhead (state self.old) (state self.new) }
         ensures turn { IsReady self.old
             → IsTurnWithCause F.stores (command_of command.now) result (state self.old) (state self.new) }
         ensures closed { (state self.old).closed ≡ true → (result ≡ Reply.Refused SolverFault.Closed) × (self.new ≡ self.old) }
         ensures full { IsReady self.old → IsTrue (state self.old).disk.honest → result ≡ Reply.Refused SolverFault.TableFull
             → IsCommandShort (command_of command.now) (F.free self.old.file) (state self.old).kept }
-        ensures sound { IsReady self.old → IsTrue (state self.old).disk.honest
-            → IsSound (state self.old).kept
-            → IsSound (state self.new).kept }
+        ensures left { IsLeft self.old self.new GoesAhead }
     {
         match command {
             Command::Load(text, goal) => match self.load(text, *goal) {
@@ -40,9 +36,6 @@ impl<F: GameFile> FileSolver<F> {
     /// Does these commands one after another, each as `load` and `work` do, and puts a reply for each after those that are
     /// there. Room for all replies is asked for first: where it is refused, nothing is done (E8). No commands are done at once.
     pub fn run(&mut self, commands: &[Command], replies: &mut Vec<Reply>) -> Result<(), SolverFault>
-        ensures ready { IsReady self.old → IsReady self.new }
-        ensures lasts { F.lasts self.old.file self.new.file }
-        ensures ahead { GoesAhead (state self.old) (state self.new) }
         ensures run { IsReady self.old
             → OnOk result (IsRun F.stores commands.now replies.old.items replies.new.items (state self.old)
             (state self.new)) }
@@ -51,14 +44,9 @@ impl<F: GameFile> FileSolver<F> {
             → IsTrue (state self.old).disk.honest
             → OnOk result ((added : List Reply) × (replies.new.items ≡ replies.old.items ++ added)
             × LeavesAPrefix F.stores (map command_of commands.now) added (state self.old) (state self.new)) }
-        ensures sound { IsReady self.old → IsTrue (state self.old).disk.honest
-            → IsSound (state self.old).kept
-            → IsSound (state self.new).kept }
         ensures each { OnOk result (length replies.new.items ≡ length replies.old.items + length commands.now) }
-        ensures none { commands.now ≡ [] → IsOk result × (self.new ≡ self.old) × (replies.new.items ≡ replies.old.items) }
-        ensures fault { IfErr result (λ fault. fault ≡ SolverFault.OutOfMemory) }
-        ensures refused { OnErr result (self.new ≡ self.old) }
-        ensures unanswered { OnErr result (replies.new.items ≡ replies.old.items) }
+        ensures left { IsLeft self.old self.new GoesAhead }
+        ensures err { IsNotRun self.old self.new commands.now replies.old.items replies.new.items result }
     {
         if commands.is_empty() {
             return Ok(());

@@ -4,7 +4,7 @@ ghost use Rattle.game_file.specs.Calls.{IsAsked};
 ghost use Rattle.solver.specs.Held.{IsOfAGame};
 ghost use Rattle.solver.specs.Solvers.{state, IsReady};
 ghost use Rattle.solver.specs.State.{IsSourceOf};
-ghost use Rattle.solver.specs.aid.Ready.{NoGameCause, IsHandedBack};
+ghost use Rattle.solver.specs.lemmas.Ready.{NoGameCause, IsHandedBack};
 
 use crate::commands::FileSolver;
 use crate::{Refused, SolverFault};
@@ -16,8 +16,7 @@ use std::alloc::Global;
 
 /// The game of the table in a file, if one is loaded. `Damaged` if the text is no game or a position is not one of its positions.
 fn source_in<F: GameFile>(alloc: Global, file: &mut F) -> Result<Option<Source>, SolverFault>
-    ensures whole { F.is_whole file.old → F.is_whole file.new }
-    ensures asked { F.is_whole file.old → IsAsked F.stores (F.state file.old) (F.state file.new) }
+    ensures read { F.is_whole file.old → F.is_whole file.new × IsAsked F.stores (F.state file.old) (F.state file.new) }
     ensures source { F.is_whole file.old → IfOk result (λ source. IsSourceOf source (F.state file.new).kept) }
     ensures of_a_game { F.is_whole file.old → IsTrue (F.state file.old).disk.honest → OnOk result (IsOfAGame (F.state file.old).kept) }
     ensures cause { F.is_whole file.old → IfErr result (NoGameCause (F.state file.old) (F.state file.new).failures) }

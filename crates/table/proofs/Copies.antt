@@ -33,7 +33,8 @@ pair_same C D same other p q (one, two) = λ i. (same p.0 q.0 one i, other p.1 q
 pub found_same : {S : Type 0} (m n : HashMap (ArrayVec ℕ) ℕ S) → n.entries ≡ m.entries → (x : ArrayVec ℕ) → get position_eq n x ≡ get position_eq m x
 found_same m n same x = ap (λ (es : List (ArrayVec ℕ × ℕ)). lookup (position_eq x) es) same
 
-pub numbered_copy : {S : Type 0} (xs ys : List (ArrayVec ℕ)) (m n : HashMap (ArrayVec ℕ) ℕ S) → ys ≡ xs → n.entries ≡ m.entries → AreNumbered xs m → AreNumbered ys n
+pub numbered_copy : {S : Type 0} (xs ys : List (ArrayVec ℕ)) (m n : HashMap (ArrayVec ℕ) ℕ S) → ys ≡ xs → n.entries ≡ m.entries
+    → AreNumbered xs m → AreNumbered ys n
 numbered_copy xs ys m n is same are = record {
   all = λ i x at. found_same m n same x ∙ are.all i x (subst (λ (zs : List (ArrayVec ℕ)). slice_get zs i ≡ Some x) is at);
   only = λ x i at. subst (λ (zs : List (ArrayVec ℕ)). slice_get zs i ≡ Some x) (sym is) (are.only x i (sym (found_same m n same x) ∙ at));

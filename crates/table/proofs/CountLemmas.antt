@@ -3,7 +3,7 @@ use Rattle.std.proofs.Common.{◌≡◌, ◌∙◌, sym, ap, Bool, true, false, 
 use Rattle.std.specs.Prelude.{count_by}
 use Rattle.retrograde.specs.declared.records.Record.{Record}
 use Rattle.retrograde.specs.Changes.{fresh_record}
-use Rattle.retrograde.proofs.Adding.{count_push}
+use Rattle.retrograde.proofs.Additions.{count_push}
 
 -- a fresh record, put after or not, is not counted
 pub count_fresh : (test : Record → Bool) → test fresh_record ≡ false → (xs ys zs : List Record) (r : Record) (b : Bool) → ys ≡ xs → r ≡ fresh_record

@@ -79,7 +79,8 @@ or_from_cond false true = refl
 or_from_cond false false = refl
 
 pub edge_is : (i p j q : ℕ) → is_at (edge_cmp (i, p)) (j, q) ≡ (j == i && q == p)
-edge_is i p j q = sym (both_tied (j == i) (q == p) (nat_cmp i j) (nat_cmp p q) (nat_eq_equiv.symm j i ∙ unsigned_ties i j) (nat_eq_equiv.symm q p ∙ unsigned_ties p q))
+edge_is i p j q = sym (both_tied (j == i) (q == p) (nat_cmp i j) (nat_cmp p q) (nat_eq_equiv.symm j i ∙ unsigned_ties i j)
+    (nat_eq_equiv.symm q p ∙ unsigned_ties p q))
 
 module _ (edges edges' : BTreeSet (ℕ × ℕ)) (i p : ℕ) (updates : Updates edge_cmp edges edges' (i, p) true) where
   pub edge_added : (j q : ℕ) → contains edge_cmp edges' (j, q) ≡ (contains edge_cmp edges (j, q) || (j == i && q == p))
@@ -116,7 +117,8 @@ module _ (edges edges' : BTreeSet (ℕ × ℕ)) (i p : ℕ) (updates : Updates e
 known_kept : (n : ℕ) (edges edges' : BTreeSet (ℕ × ℕ)) → edges'.keys ≡ edges.keys → AreBetweenKnown n edges → AreBetweenKnown n edges'
 known_kept n edges edges' same known i p is = known i p (ap (λ (ks : List (ℕ × ℕ)). list_any (is_at (edge_cmp (i, p))) ks) (sym same) ∙ is)
 
-pub known_after : {E : Type 0} (n : ℕ) (edges edges' : BTreeSet (ℕ × ℕ)) (i p : ℕ) (result : Result Bool E) → OnOk result (Updates edge_cmp edges edges' (i, p) true)
+pub known_after : {E : Type 0} (n : ℕ) (edges edges' : BTreeSet (ℕ × ℕ)) (i p : ℕ) (result : Result Bool E)
+    → OnOk result (Updates edge_cmp edges edges' (i, p) true)
     → OnErr result (IsUnchanged edges edges') → AreBetweenKnown n edges → i < n → p < n → AreBetweenKnown n edges'
 known_after n edges edges' i p (Ok added) updates same known led within = known_added edges edges' i p updates n known led within
 known_after n edges edges' i p (Err e) updates same known led within = known_kept n edges edges' same known

@@ -1,8 +1,8 @@
 pub mod EdgeLemmas
 pub mod NumberLemmas
 pub mod CountLemmas
-pub mod Listing
+pub mod OrderMarks
 pub mod Whole
 pub mod Copies
-pub mod Passing
+pub mod Exits
 pub mod Frames

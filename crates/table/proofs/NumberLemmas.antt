@@ -5,7 +5,7 @@ use Rattle.std.specs.HashMap.{HashMap, get, Updates}
 use Rattle.std.proofs.lemmas.Slice.Eq.{bytes_eq-Decides}
 use Rattle.std.proofs.lemmas.Option.{slice_get-map, same_Some, slice_get_within}
 use Rattle.arrayvec.specs.ArrayVec.{ArrayVec}
-use Rattle.retrograde.proofs.Adding.{push_before, push_at, push_cases}
+use Rattle.retrograde.proofs.Additions.{push_before, push_at, push_cases}
 use Rattle.table.specs.Memory.{bytes_of_each, position_eq, AreNumbered}
 
 -- positions with the same bytes are the same

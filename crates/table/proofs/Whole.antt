@@ -13,8 +13,8 @@ use Rattle.retrograde.specs.declared.records.State.TheVariants.{Known, Expanded,
 use Rattle.retrograde.specs.declared.records.Record.{Record}
 use Rattle.retrograde.specs.Stored.{Stored, FitsState, IsTable, is_expanded, is_processed, is_settled, value_of, processed_in, view_of}
 use Rattle.table.specs.Memory.{bytes_of_each, position_eq, edge_cmp, AreNumbered, AreBetweenKnown}
-use Rattle.table.specs.Fitting.{FitsTogether}
-use Rattle.table.specs.aid.Fitting.{IsSettledAs, PartsFit}
+use Rattle.table.specs.Fit.{FitsTogether}
+use Rattle.table.specs.lemmas.Fit.{IsSettledAs, PartsFit}
 use Rattle.retrograde.proofs.Sound.{map_some}
 use Rattle.table.proofs.NumberLemmas.{at_bytes}
 
@@ -47,7 +47,8 @@ value_has (Some r) has = (r, refl, winner_has r.winner has)
 has_value : (r : Record) → IsSome r.winner → IsSome (value_of r)
 has_value r has = map_some r.winner r.distance has
 
-module _ {S : Type 0} (positions : List (ArrayVec ℕ)) (numbers : HashMap (ArrayVec ℕ) ℕ S) (records : List Record) (edges : BTreeSet (ℕ × ℕ)) (order : List ℕ) (expanded processed : ℕ)
+module _ {S : Type 0} (positions : List (ArrayVec ℕ)) (numbers : HashMap (ArrayVec ℕ) ℕ S) (records : List Record)
+    (edges : BTreeSet (ℕ × ℕ)) (order : List ℕ) (expanded processed : ℕ)
     (numbered : AreNumbered positions numbers) (recorded : length records ≡ length positions) (known : AreBetweenKnown (length positions) edges)
     (expanded_is : expanded ≡ count_by (λ r. is_expanded r.state) records) (processed_is : processed ≡ count_by (λ r. is_processed r.state) records) where
   abbrev whole : Stored (List ℕ)
@@ -75,9 +76,13 @@ module _ {S : Type 0} (positions : List (ArrayVec ℕ)) (numbers : HashMap (Arra
     records = recorded ∙ sym as_many;
     distinct = distinct;
     states = λ i r at. (parts.each i r at).0;
-    expanded = λ i r at. ((λ is. (let low = (parts.each i r at).1.0 is in omega (arith, low, expanded_is))), (λ low. (parts.each i r at).1.1 (omega (arith, low, expanded_is))));
+    expanded = λ i r at. (
+      (λ is. (let low = (parts.each i r at).1.0 is in omega (arith, low, expanded_is))),
+      (λ low. (parts.each i r at).1.1 (omega (arith, low, expanded_is))),
+    );
     listed = λ i has. (let (r, at, won) = value_has (slice_get records i) has in parts.listed i r at (only_settled r r.state (parts.each i r at).0 won));
-    settled = λ k i at. (let it = parts.in_order.settled k i at in value_at i it.kept it.found (settled_has it.kept it.kept.state it.settled (parts.each i it.kept it.found).0));
+    settled = λ k i at. (let it = parts.in_order.settled k i at in
+        value_at i it.kept it.found (settled_has it.kept it.kept.state it.settled (parts.each i it.kept it.found).0));
     counted = parts.counted;
     once = parts.in_order.once;
     processed = λ k i at. (let it = parts.in_order.settled k i at in (
@@ -90,7 +95,13 @@ module _ {S : Type 0} (positions : List (ArrayVec ℕ)) (numbers : HashMap (Arra
   pub made_of_parts : IsTable whole → PartsFit expanded processed records order
   made_of_parts table = record {
     started = omega (arith, table.started, recorded, as_many);
-    each = λ i r at. (table.states i r at, ((λ is. (let low = (table.expanded i r at).0 is in omega (arith, low, expanded_is))), (λ low. (table.expanded i r at).1 (omega (arith, low, expanded_is)))));
+    each = λ i r at. (
+      table.states i r at,
+      (
+        (λ is. (let low = (table.expanded i r at).0 is in omega (arith, low, expanded_is))),
+        (λ low. (table.expanded i r at).1 (omega (arith, low, expanded_is))),
+      ),
+    );
     counted = table.counted;
     in_order = record { settled = settled; once = table.once };
     listed = λ i r at is. table.listed i (value_at i r at (settled_has r r.state is (table.states i r at)));
@@ -110,7 +121,8 @@ module _ {S : Type 0} (positions : List (ArrayVec ℕ)) (numbers : HashMap (Arra
           }
 
   -- all lengths
-  bytes_there : (i : ℕ) (x : List ℕ) → slice_get (bytes_of_each positions) i ≡ Some x → slice_get positions i ≡ Some (let p : ArrayVec ℕ = record { items = x } in p)
+  bytes_there : (i : ℕ) (x : List ℕ) → slice_get (bytes_of_each positions) i ≡ Some x
+      → slice_get positions i ≡ Some (let p : ArrayVec ℕ = record { items = x } in p)
   bytes_there i x at = at_bytes positions i (record { items = x }) at
 
   there_bytes : (i : ℕ) (x : ArrayVec ℕ) → slice_get positions i ≡ Some x → slice_get (bytes_of_each positions) i ≡ Some x.items

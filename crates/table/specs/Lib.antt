@@ -2,9 +2,9 @@ pub use Rattle.retrograde.specs.Changes
 pub use Rattle.retrograde.specs.Edges
 pub use Rattle.retrograde.specs.Stored
 pub mod Memory
-pub mod Fitting
+pub mod Fit
 pub mod InMemory
 pub mod Records
 pub mod Faults
 pub mod Frames
-pub mod aid
+pub mod lemmas

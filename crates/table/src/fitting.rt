@@ -4,7 +4,7 @@ ghost use Rattle.std.specs.Prelude.{IfOk, IfSome, IfNone, OnOk, IsSome};
 ghost use Rattle.retrograde.specs.declared.records.Record.{Record};
 ghost use Rattle.retrograde.specs.Stored.{FitsState, is_settled as settled_in, is_expanded as expanded_in};
 ghost use Rattle.arrayvec.specs.ArrayVec.{ArrayVec};
-ghost use Rattle.table.specs.aid.Fitting.{RecordsFit, IsSettledAs, OrderFits, AllListed, PartsFit};
+ghost use Rattle.table.specs.lemmas.Fit.{RecordsFit, IsSettledAs, OrderFits, AllListed, PartsFit};
 
 use position_pack::Packed;
 use retrograde::{Record, State};

@@ -6,7 +6,7 @@ ghost use Rattle.retrograde.specs.Changes.{fresh_record, counts_of};
 ghost use Rattle.retrograde.specs.Edges.{IsAfter};
 ghost use Rattle.retrograde.specs.Stored.{is_expanded, is_processed, loaded};
 ghost use Rattle.table.specs.declared.fault.TableFault.TheVariants.{OutOfMemory};
-ghost use Rattle.table.specs.Fitting.{FitsTogether};
+ghost use Rattle.table.specs.Fit.{FitsTogether};
 ghost use Rattle.table.specs.Memory.{AreNumbered, AreBetweenKnown, bytes_of_each, edge_cmp};
 
 use crate::fault::TableFault;

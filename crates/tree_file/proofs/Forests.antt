@@ -1,14 +1,15 @@
 -- The four trees are walked, one after another.
+use Rattle.page_store.specs.lemmas.Frames.{marks_none, marks_then}
 use Rattle.std.proofs.Common.{◌≡◌, ◌≢◌, ℕ, List, length, Contains, IsTrue, refl, sym, ◌∙◌, subst}
-use Rattle.sector_disk.specs.aid.Moments.{still_honest}
-use Rattle.page_store.specs.aid.Marking.{OnlyMarks}
+use Rattle.sector_disk.specs.lemmas.Moments.{still_honest}
+use Rattle.page_store.specs.Frames.{OnlyMarks}
 use Rattle.page_store.specs.declared.fault.PageFault.{PageFault}
 use Rattle.page_store.specs.declared.fault.PageFault.TheVariants.{Disk, NotATable, Damaged, TableFull, OutOfMemory, Closed}
 use Rattle.page_store.specs.declared.marks.Mark.TheVariants.{Committed}
 use Rattle.page_store.specs.Marks.{mark}
 use Rattle.page_store.specs.Store.{Store, reads}
 use Rattle.game_file.specs.declared.sizes.Sizes.{Sizes}
-use Rattle.btree.specs.aid.Unchanged.{grew_before}
+use Rattle.btree.specs.lemmas.Unchanged.{grew_before}
 use Rattle.btree.specs.Page.{Item}
 use Rattle.page_store.specs.Pages.{AreWaiting}
 use Rattle.tree_table.specs.declared.slot.TreeSlot.{TreeSlot}
@@ -18,9 +19,9 @@ use Rattle.tree_table.specs.Forest.{AreApart, IsTreeOf}
 use Rattle.tree_table.specs.Trees.{root_of}
 use Rattle.tree_file.specs.Counted.{AreAsMany}
 use Rattle.tree_file.specs.Walked.{CanBeWalked, AreWalked, ForestCause}
-use Rattle.tree_file.specs.aid.One.{HoldsTree, IsAsMany, IsWalkedTree, TreeCause}
-use Rattle.tree_file.specs.aid.Marking.{only_none, only_then, reads_as_before, stays_marked, later_apart, apart_turned}
-use Rattle.tree_file.specs.aid.OneTree.{one_tree}
+use Rattle.tree_file.specs.lemmas.One.{HoldsTree, IsAsMany, IsWalkedTree, TreeCause}
+use Rattle.tree_file.specs.lemmas.MarkedPages.{reads_as_before, stays_marked, later_apart, apart_turned}
+use Rattle.tree_file.specs.lemmas.OneTree.{one_tree}
 
 -- a tree is as many as the sizes tell where all four are
 as_many : (sizes : Sizes) (entries : Tree → List Item) → AreAsMany sizes entries → (t : Tree) → IsAsMany sizes t (entries t)
@@ -66,7 +67,7 @@ stays_then slot walked tree old mid new other only walk stays honest pages entri
     done.marked.kept p not_there ∙ stays honest pages entries can p here
 
 after_first : (slot : TreeSlot) (tree : Tree) (a b : Store) → Positions ≢ tree → (IsTrue a.disk.honest → Walked slot Positions a b) → Stays slot tree a b
-after_first slot tree a b other one = stays_then slot Positions tree a a b other (only_none a) one (stays_none slot tree a)
+after_first slot tree a b other one = stays_then slot Positions tree a a b other (marks_none a) one (stays_none slot tree a)
 
 -- a tree is not walked
 pub tree_fails : (slot : TreeSlot) (tree : Tree) (old mid new : Store) → OnlyMarks old mid → Stays slot tree old mid → (fault : PageFault)
@@ -84,7 +85,7 @@ tree_fails slot tree old mid new only stays Closed closed = sym only.closed ∙ 
 -- the first tree is not walked, or a later one
 pub first_fails : (slot : TreeSlot) (a b : Store) (fault : PageFault) → TreeCause slot Positions (IsAsMany slot.sizes Positions) a b fault
     → ForestCause slot a b fault
-first_fails slot a b = tree_fails slot Positions a a b (only_none a) (stays_none slot Positions a)
+first_fails slot a b = tree_fails slot Positions a a b (marks_none a) (stays_none slot Positions a)
 
 pub second_fails : (slot : TreeSlot) (a b c : Store) → OnlyMarks a b → (IsTrue a.disk.honest → Walked slot Positions a b) → (fault : PageFault)
     → TreeCause slot Records (IsAsMany slot.sizes Records) b c fault → ForestCause slot a c fault
@@ -94,14 +95,14 @@ pub third_fails : (slot : TreeSlot) (a b c d : Store) → OnlyMarks a b → Only
     → (IsTrue b.disk.honest → Walked slot Records b c)
     → (fault : PageFault) → TreeCause slot Edges (IsAsMany slot.sizes Edges) c d fault → ForestCause slot a d fault
 third_fails slot a b c d ab bc one two =
-    tree_fails slot Edges a c d (only_then ab bc) (stays_then slot Records Edges a b c (λ e. cc) ab two (after_first slot Edges a b (λ e. cc) one))
+    tree_fails slot Edges a c d (marks_then ab bc) (stays_then slot Records Edges a b c (λ e. cc) ab two (after_first slot Edges a b (λ e. cc) one))
 
 pub fourth_fails : (slot : TreeSlot) (a b c d e : Store) → OnlyMarks a b → OnlyMarks b c → OnlyMarks c d → (IsTrue a.disk.honest → Walked slot Positions a b)
     → (IsTrue b.disk.honest → Walked slot Records b c) → (IsTrue c.disk.honest → Walked slot Edges c d)
     → (fault : PageFault) → TreeCause slot Order (IsAsMany slot.sizes Order) d e fault → ForestCause slot a e fault
 fourth_fails slot a b c d e ab bc cd one two three =
-    tree_fails slot Order a d e (only_then (only_then ab bc) cd)
-    (stays_then slot Edges Order a c d (λ e. cc) (only_then ab bc) three
+    tree_fails slot Order a d e (marks_then (marks_then ab bc) cd)
+    (stays_then slot Edges Order a c d (λ e. cc) (marks_then ab bc) three
     (stays_then slot Records Order a b c (λ e. cc) ab two (after_first slot Order a b (λ e. cc) one)))
 
 -- one for each tree
@@ -124,10 +125,10 @@ module _ (slot : TreeSlot) (a b c d e : Store) (honest : IsTrue a.disk.honest) (
   the_entries = of_four e1 e2 e3 e4
 
   ac : OnlyMarks a c
-  ac = only_then ab bc
+  ac = marks_then ab bc
 
   ad : OnlyMarks a d
-  ad = only_then ac cd
+  ad = marks_then ac cd
 
   held : (t : Tree) → HoldsTree slot t a (the_pages t) (the_entries t)
   held Positions = one.holds
@@ -142,27 +143,27 @@ module _ (slot : TreeSlot) (a b c d e : Store) (honest : IsTrue a.disk.honest) (
   waited Order = λ p here. ad.works.waiting p (four.marked.waited p here)
 
   marked : (t : Tree) (p : ℕ) → Contains (the_pages t) p → mark e.marks p ≡ Committed
-  marked Positions p here = stays_marked (only_then bc (only_then cd de)) p (one.marked.marked p here)
-  marked Records p here = stays_marked (only_then cd de) p (two.marked.marked p here)
+  marked Positions p here = stays_marked (marks_then bc (marks_then cd de)) p (one.marked.marked p here)
+  marked Records p here = stays_marked (marks_then cd de) p (two.marked.marked p here)
   marked Edges p here = stays_marked de p (three.marked.marked p here)
   marked Order p here = four.marked.marked p here
 
   apart : (t u : Tree) → t ≢ u → AreApart (the_pages t) (the_pages u)
   apart Positions Positions other = absurd (other refl)
-  apart Positions Records other = later_apart p1 p2 a b b c one.marked (only_none b) two.marked
+  apart Positions Records other = later_apart p1 p2 a b b c one.marked (marks_none b) two.marked
   apart Positions Edges other = later_apart p1 p3 a b c d one.marked bc three.marked
-  apart Positions Order other = later_apart p1 p4 a b d e one.marked (only_then bc cd) four.marked
-  apart Records Positions other = apart_turned p1 p2 (later_apart p1 p2 a b b c one.marked (only_none b) two.marked)
+  apart Positions Order other = later_apart p1 p4 a b d e one.marked (marks_then bc cd) four.marked
+  apart Records Positions other = apart_turned p1 p2 (later_apart p1 p2 a b b c one.marked (marks_none b) two.marked)
   apart Records Records other = absurd (other refl)
-  apart Records Edges other = later_apart p2 p3 b c c d two.marked (only_none c) three.marked
+  apart Records Edges other = later_apart p2 p3 b c c d two.marked (marks_none c) three.marked
   apart Records Order other = later_apart p2 p4 b c d e two.marked cd four.marked
   apart Edges Positions other = apart_turned p1 p3 (later_apart p1 p3 a b c d one.marked bc three.marked)
-  apart Edges Records other = apart_turned p2 p3 (later_apart p2 p3 b c c d two.marked (only_none c) three.marked)
+  apart Edges Records other = apart_turned p2 p3 (later_apart p2 p3 b c c d two.marked (marks_none c) three.marked)
   apart Edges Edges other = absurd (other refl)
-  apart Edges Order other = later_apart p3 p4 c d d e three.marked (only_none d) four.marked
-  apart Order Positions other = apart_turned p1 p4 (later_apart p1 p4 a b d e one.marked (only_then bc cd) four.marked)
+  apart Edges Order other = later_apart p3 p4 c d d e three.marked (marks_none d) four.marked
+  apart Order Positions other = apart_turned p1 p4 (later_apart p1 p4 a b d e one.marked (marks_then bc cd) four.marked)
   apart Order Records other = apart_turned p2 p4 (later_apart p2 p4 b c d e two.marked cd four.marked)
-  apart Order Edges other = apart_turned p3 p4 (later_apart p3 p4 c d d e three.marked (only_none d) four.marked)
+  apart Order Edges other = apart_turned p3 p4 (later_apart p3 p4 c d d e three.marked (marks_none d) four.marked)
   apart Order Order other = absurd (other refl)
 
   pub all_walked : (pages : Tree → List ℕ) × (entries : Tree → List Item) × AreWalked slot pages entries a e

@@ -1,22 +1,21 @@
-pub mod Making
-pub mod CheckPassing
-pub mod Refusing
+pub mod MadeTable
+pub mod CheckExits
+pub mod Refusals
 pub mod Spelled
-pub mod Taking
+pub mod FoundPlaces
 pub mod Winners
 mod Told
 mod Readers
-mod ForestPassing
+mod ForestExits
 mod Walks
 mod Forests
-mod Passing
-mod Saving
-mod Loading
-mod Creating
-mod Marking
-mod Finding
-mod Sealing
-mod Opening
+mod Exits
+mod Commits
+mod Loads
+mod Creation
+mod FoundGame
+mod SealedStore
+mod OpenedFile
 mod Versions
-mod Renewing
-mod Growing
+mod Renewal
+mod Growth

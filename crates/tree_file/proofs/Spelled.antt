@@ -14,10 +14,10 @@ use Rattle.btree.specs.Page.{Item}
 use Rattle.tree_table.specs.declared.tree.Tree.{Tree}
 use Rattle.tree_table.specs.declared.tree.Tree.TheVariants.{Positions, Records, Order}
 use Rattle.tree_table.specs.Entries.{number_key}
-use Rattle.tree_table.specs.aid.Lists.{zip_got}
-use Rattle.tree_file.specs.Spelling.{SpellTable}
-use Rattle.tree_file.specs.aid.Right.{IsNumberAt, IsCellAt, is_among, IsPlaceOf, IsRightNumber, AreRight}
-use Rattle.tree_file.proofs.Taking.{one_number_at}
+use Rattle.tree_table.specs.lemmas.Lists.{zip_got}
+use Rattle.tree_file.specs.Spelled.{SpellTable}
+use Rattle.tree_file.specs.lemmas.Right.{IsNumberAt, IsCellAt, is_among, IsPlaceOf, IsRightNumber, AreRight}
+use Rattle.tree_file.proofs.FoundPlaces.{one_number_at}
 use Rattle.tree_file.proofs.Winners.{settled_has, only_settled, processed_settled, value_has, value_there}
 
 -- truths

@@ -3,10 +3,10 @@ use Rattle.std.proofs.Common.{◌≡◌, ◌≢◌, ℕ, ◌+◌, ◌^◌, ◌�
 use Rattle.std.proofs.lemmas.List.Elements.{All-append, All-cons, All-nil, All-head, All-tail}
 use Rattle.btree.specs.Page.{Item}
 use Rattle.tree_table.specs.Entries.{edge_key}
-use Rattle.tree_table.specs.aid.Numbers.{same_edge}
+use Rattle.tree_table.specs.lemmas.Numbers.{same_edge}
 use Rattle.tree_file.specs.Counted.{IsBetween}
-use Rattle.tree_file.specs.aid.One.{CountIs, EdgesAre}
-use Rattle.tree_file.specs.aid.Told.{AreTallied, IsNoEdge, IsPastCount}
+use Rattle.tree_file.specs.lemmas.One.{CountIs, EdgesAre}
+use Rattle.tree_file.specs.lemmas.Told.{AreTallied, IsNoEdge, IsPastCount}
 
 all_front : {X : Type 0} (P : X → Type 0) (xs ys : List X) → All P (xs ++ ys) → All P xs
 all_front P [] ys all = All-nil P

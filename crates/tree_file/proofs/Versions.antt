@@ -6,30 +6,30 @@ use Rattle.page_store.specs.declared.holds.Hold.{Hold}
 use Rattle.page_store.specs.Holds.{needed_by, with_need}
 use Rattle.page_store.specs.declared.holds.HoldPlace.TheVariants.{First, Second, Third, Fourth}
 use Rattle.page_store.specs.declared.holds.Holders.{Holders}
-use Rattle.page_store.specs.aid.Works.{works_refl}
+use Rattle.page_store.specs.lemmas.Works.{works_refl}
 use Rattle.page_store.specs.Marks.{mark, rests}
 use Rattle.page_store.specs.Store.{Store, IsSoundStore, IsHoldTaken, IsLetGo}
-use Rattle.page_store.specs.aid.Carrying.{let_go_calm}
-use Rattle.page_store.specs.Spelling.{IsCalm}
+use Rattle.page_store.specs.lemmas.Carried.{let_go_calm}
+use Rattle.page_store.specs.Spelled.{IsCalm}
 use Rattle.retrograde.specs.Stored.{Stored}
 use Rattle.game_file.specs.Fields.{commits_in}
 use Rattle.game_file.specs.Kept.{Kept as KeptTable, goal_kept, packing_kept, text_kept}
 use Rattle.tree_table.specs.declared.slot.TreeSlot.{TreeSlot}
-use Rattle.tree_table.specs.Keeping.{IsKeptInTrees, IsStill, StandsInTrees, slot_or_bare}
+use Rattle.tree_table.specs.KeptTrees.{IsKeptInTrees, IsStill, StandsInTrees, slot_or_bare}
 use Rattle.tree_table.specs.Slot.{slot_in}
-use Rattle.tree_table.specs.Working.{Work}
+use Rattle.tree_table.specs.WorkTable.{Work}
 use Rattle.tree_table.specs.Versions.{StandsInVersion}
 use Rattle.std.specs.Option.{IfSome, IfNone}
 use Rattle.std.specs.Result.{IfErr}
 use Rattle.table.specs.declared.fault.TableFault.{TableFault}
 use Rattle.table.specs.declared.fault.TableFault.TheVariants.{Disk as DiskFailed, Damaged, TableFull, OutOfMemory, Closed}
 use Rattle.tree_table.specs.Causes.{IsNoTable, ReadCause}
-use Rattle.tree_table.specs.aid.Standing.{taken_still, let_go_still, works_still}
-use Rattle.tree_table.specs.aid.Versions.{version_taken}
+use Rattle.tree_table.specs.lemmas.StandingTable.{taken_still, let_go_still, works_still}
+use Rattle.tree_table.specs.lemmas.Versions.{version_taken}
 use Rattle.tree_file.specs.File.{File, IsWholeFile, NamesSlot, kept_of, counts_told, state_of}
 use Rattle.game_file.specs.Causes.{FileReadFault, FileVersionCause}
-use Rattle.tree_file.specs.aid.Whole.{again_goal, again_kept, again_packing, again_text, again_whole}
-use Rattle.tree_file.proofs.Saving.{calm_sealed}
+use Rattle.tree_file.specs.lemmas.Whole.{again_goal, again_kept, again_packing, again_text, again_whole}
+use Rattle.tree_file.proofs.Commits.{calm_sealed}
 
 -- a file beside which a hold was taken or let go
 module _ {layout : ℕ} (was new : File) (whole : IsWholeFile layout was) (still : IsStill was.work.store new.work.store) (calm : IsCalm new.work.store)

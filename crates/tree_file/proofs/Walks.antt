@@ -7,16 +7,16 @@ use Rattle.page_store.specs.Store.{Store as StoreStated, reads}
 use Rattle.btree.specs.Page.{Item}
 use Rattle.btree.specs.declared.page.widths.Widths.{Widths}
 use Rattle.btree.specs.Changes.{HoldsMap}
-use Rattle.btree.specs.aid.Laws.{a_root_has_one_map}
+use Rattle.btree.specs.lemmas.Laws.{a_root_has_one_map}
 use Rattle.btree.specs.declared.walk.fault.WalkFault.{WalkFault}
 use Rattle.btree.specs.declared.walk.fault.WalkFault.TheVariants.{Store, Refused}
-use Rattle.btree.specs.Walking.{MarksPages, WalkCause}
+use Rattle.btree.specs.Walks.{MarksPages, WalkCause}
 use Rattle.page_store.specs.Pages.{AreWaiting}
 use Rattle.tree_table.specs.declared.slot.TreeSlot.{TreeSlot}
 use Rattle.tree_table.specs.declared.tree.Tree.{Tree}
 use Rattle.tree_table.specs.Trees.{key_width, value_width, root_of}
-use Rattle.tree_file.specs.aid.OneTree.{map_of}
-use Rattle.tree_file.specs.aid.One.{CountIs, HoldsTree, IsAsMany, IsWalkedTree, TreeCause, fault_of}
+use Rattle.tree_file.specs.lemmas.OneTree.{map_of}
+use Rattle.tree_file.specs.lemmas.One.{CountIs, HoldsTree, IsAsMany, IsWalkedTree, TreeCause, fault_of}
 
 module _ (slot : TreeSlot) (tree : Tree) (w : Widths) (root : ℕ) (keys : w.key ≡ key_width slot.sizes.packed tree)
     (values : w.value ≡ value_width slot.sizes.packed tree) (at : root ≡ root_of slot.roots tree) (old new : StoreStated) (Such : List Item → Type 0) where

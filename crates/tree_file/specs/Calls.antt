@@ -1,7 +1,7 @@
 -- What the calls of a table leave of its file.
 use Rattle.std.specs.Prelude.{◌≡◌}
 use Rattle.table.specs.declared.fault.TableFault.{TableFault}
-use Rattle.tree_table.specs.Working.{WorkStays, WorkGoesOn, WorkFails}
+use Rattle.tree_table.specs.WorkTable.{WorkStays, WorkGoesOn, WorkFails}
 use Rattle.tree_file.specs.File.{File}
 
 -- calls that only read

@@ -8,9 +8,9 @@ use Rattle.table.specs.declared.fault.TableFault.TheVariants.{Disk, Damaged, Tab
 use Rattle.btree.specs.Page.{Item}
 use Rattle.tree_table.specs.declared.slot.TreeSlot.{TreeSlot}
 use Rattle.tree_table.specs.declared.tree.Tree.{Tree}
-use Rattle.tree_table.specs.Working.{HoldsForest}
+use Rattle.tree_table.specs.WorkTable.{HoldsForest}
 use Rattle.tree_file.specs.Counted.{AreAsMany}
-use Rattle.tree_file.specs.Spelling.{SpellTable}
+use Rattle.tree_file.specs.Spelled.{SpellTable}
 
 -- the disk failed; entries that are as many as the slot tells spell no table; memory is short; the store is closed
 abbrev pub CheckEntriesCause : TreeSlot → Store → Store → TableFault → Type 0

@@ -2,17 +2,17 @@
 use Rattle.std.specs.Prelude.{◌≡◌, ℕ, ◌≤◌, ◌<◌, false, List, length, Option, None, Some, IsTrue}
 use Rattle.page_store.specs.declared.marks.Mark.TheVariants.{Free}
 use Rattle.page_store.specs.Marks.{mark}
-use Rattle.page_store.specs.Spelling.{IsCalm}
+use Rattle.page_store.specs.Spelled.{IsCalm}
 use Rattle.page_store.specs.Store.{IsSoundStore, reads}
 use Rattle.game_file.specs.Fields.{commits_in, goal_numbered, layout_in, SaysPages}
 use Rattle.retrograde.specs.declared.records.Counts.{Counts}
 use Rattle.game_file.specs.Kept.{Kept, kept_as}
 use Rattle.game_file.specs.State.{State}
 use Rattle.tree_table.specs.declared.slot.TreeSlot.{TreeSlot}
-use Rattle.tree_table.specs.Keeping.{IsKeptInTrees, IsOneOf, slot_or_bare}
+use Rattle.tree_table.specs.KeptTrees.{IsKeptInTrees, IsOneOf, slot_or_bare}
 use Rattle.tree_table.specs.Slot.{slot_in, IsEmptyTreeSlot}
 use Rattle.tree_table.specs.Spelled.{table_in}
-use Rattle.tree_table.specs.Working.{Work}
+use Rattle.tree_table.specs.WorkTable.{Work}
 use Rattle.page_store.specs.declared.limits.TheConstants.{MIN_PAGES}
 
 -- a file: the table that a command has come to, and the slot of the committed root, if a game is loaded

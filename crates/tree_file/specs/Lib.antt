@@ -2,7 +2,7 @@ pub use Rattle.btree.specs.Page
 pub use Rattle.game_file.specs.Calls as GameFileCalls
 pub use Rattle.game_file.specs.Causes as GameFileCauses
 pub use Rattle.game_file.specs.Fields
-pub use Rattle.game_file.specs.Growing
+pub use Rattle.game_file.specs.Growth
 pub use Rattle.game_file.specs.Kept
 pub use Rattle.game_file.specs.Numbers
 pub use Rattle.game_file.specs.Stops
@@ -16,18 +16,18 @@ pub use Rattle.sector_disk.specs.Disk
 pub use Rattle.tree_table.specs.Entries
 pub use Rattle.tree_table.specs.Held
 pub use Rattle.tree_table.specs.InTrees
-pub use Rattle.tree_table.specs.Keeping
+pub use Rattle.tree_table.specs.KeptTrees
 pub use Rattle.tree_table.specs.Slot
-pub use Rattle.tree_table.specs.Working
+pub use Rattle.tree_table.specs.WorkTable
 pub mod Counted
-pub mod Spelling
+pub mod Spelled
 pub mod Causes
 pub mod Walked
 pub mod File
 pub mod Calls
 pub mod InFile
-pub mod Moving
+pub mod MoveCauses
 pub mod Older
-pub mod Opening
+pub mod Opened
 pub mod Versions
-pub mod aid
+pub mod lemmas

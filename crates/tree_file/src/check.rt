@@ -1,14 +1,14 @@
 //! The entries of four trees are looked at: the settled order, and then each number.
 ghost use Rattle.std.specs.Prelude.{◌≤◌, ℕ, List, OnOk, IfErr, IsTrue};
-ghost use Rattle.page_store.specs.Store.{StoreWorks, IsUnchanged};
+ghost use Rattle.page_store.specs.Frames.{PagesRead};
 ghost use Rattle.retrograde.specs.Stored.{Stored};
 ghost use Rattle.game_file.specs.Numbers.{AreWithinLimits};
 ghost use Rattle.btree.specs.Page.{Item};
 ghost use Rattle.tree_table.specs.declared.tree.Tree.{Tree};
-ghost use Rattle.tree_table.specs.Working.{HoldsForest};
+ghost use Rattle.tree_table.specs.WorkTable.{HoldsForest};
 ghost use Rattle.tree_file.specs.Causes.{CheckEntriesCause};
 ghost use Rattle.tree_file.specs.Counted.{AreAsMany};
-ghost use Rattle.tree_file.specs.Spelling.{SpellTable};
+ghost use Rattle.tree_file.specs.Spelled.{SpellTable};
 
 use crate::number::check_number;
 use crate::places::find_places;
@@ -29,8 +29,7 @@ pub fn check_entries<P: Pages>(
     ensures table { IsTrue (P.store store.old).disk.honest → (text : List ℕ) (entries : Tree → List Item)
         → HoldsForest slot.now text entries (P.store store.old) → AreAsMany slot.now.sizes entries
         → OnOk result ((table : Stored (List ℕ)) × SpellTable slot.now.sizes entries table) }
-    ensures unchanged { IsUnchanged (P.store store.old) (P.store store.new) }
-    ensures works { StoreWorks (P.store store.old) (P.store store.new) }
+    ensures read { PagesRead (P.store store.old) (P.store store.new) }
     ensures cause { IfErr result (CheckEntriesCause slot.now (P.store store.old) (P.store store.new)) }
 {
     let placed = find_places(alloc, store, slot)?;

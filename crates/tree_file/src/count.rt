@@ -1,6 +1,6 @@
 //! Entries are counted.
 ghost use Rattle.std.specs.Prelude.{◌≡◌, length};
-ghost use Rattle.tree_file.specs.aid.Told.{IsPastCount};
+ghost use Rattle.tree_file.specs.lemmas.Told.{IsPastCount};
 
 use btree::walk::{Refused, Visitor};
 

@@ -1,7 +1,7 @@
 //! Edges are counted, and their ends are looked at.
 ghost use Rattle.std.specs.Prelude.{◌≡◌, ◌≤◌, ◌<◌, ◌↔◌, ◌^◌, ℕ, length, IfSome, IfNone};
 ghost use Rattle.tree_table.specs.Entries.{edge_key};
-ghost use Rattle.tree_file.specs.aid.Told.{AreTallied, IsNoEdge};
+ghost use Rattle.tree_file.specs.lemmas.Told.{AreTallied, IsNoEdge};
 
 use btree::walk::{Refused, Visitor};
 use byteorder::{BigEndian, ByteOrder};

@@ -1,6 +1,6 @@
 //! A table on trees in a file of one layout.
 ghost use Rattle.std.specs.Prelude.{◌≡◌, ◌↔◌, ◌≢◌, ◌⊎◌, ◌≤◌, ◌<◌, ◌/◌, ℕ, true, None, min, IfOk, IfErr, IsTrue};
-ghost use Rattle.tree_file.specs.aid.Making.{of_new};
+ghost use Rattle.tree_file.specs.lemmas.MadeTable.{of_new};
 ghost use Rattle.page_store.specs.declared.limits.TheConstants.{MAX_PAGES};
 ghost use Rattle.game_file.specs.Kept.{in_any};
 ghost use Rattle.game_file.specs.State.{pages_of};
@@ -10,17 +10,18 @@ ghost use Rattle.game_file.specs.Calls.{IsOpenedFile, IsNotOpened};
 ghost use Rattle.game_file.specs.Causes.{FileOpenCause};
 ghost use Rattle.tree_table.specs.Held.{StoresTrees};
 ghost use Rattle.tree_table.specs.InTrees.{work_in};
-ghost use Rattle.tree_table.specs.aid.OneTable.{a_picture_stores_one_tree_table};
-ghost use Rattle.tree_table.specs.Keeping.{AreSized, StandsFor};
+ghost use Rattle.tree_table.specs.lemmas.OneTable.{a_picture_stores_one_tree_table};
+ghost use Rattle.tree_table.specs.KeptTrees.{AreSized, StandsFor};
 ghost use Rattle.tree_file.specs.File.{IsWholeFile, UsesNoOther, state_of};
-ghost use Rattle.tree_file.specs.aid.Backed.{are_sized_prop};
+ghost use Rattle.tree_file.specs.lemmas.Backed.{are_sized_prop};
+ghost use Rattle.tree_file.specs.lemmas.Opened.{IsFileRead, IsTurnedBack};
 ghost use Rattle.page_store.specs.declared.marks.Mark.TheVariants.{Waiting};
 ghost use Rattle.page_store.specs.Marks.{mark};
 ghost use Rattle.tree_file.specs.Older.{IsOlderTable};
 ghost use Rattle.tree_table.specs.Versions.{KeepsHolds};
-ghost use Rattle.tree_table.specs.aid.Versions.{keeps_holds_then, works_keep_holds};
-ghost use Rattle.tree_file.specs.aid.Whole.{whole_counts, whole_leaves, whole_stored, whole_stays, works_ahead, fails_for, older_none};
-ghost use Rattle.tree_file.specs.aid.Free.{whole_free, empty_free};
+ghost use Rattle.tree_table.specs.lemmas.Versions.{keeps_holds_then, works_keep_holds};
+ghost use Rattle.tree_file.specs.lemmas.Whole.{whole_counts, whole_leaves, whole_stored, whole_stays, works_ahead, fails_for, older_none};
+ghost use Rattle.tree_file.specs.lemmas.Free.{whole_free, empty_free};
 
 use crate::naming::slot_naming;
 use crate::on_disk::PagesOnDisk;
@@ -83,10 +84,7 @@ impl<P: PagesOnDisk, const LAYOUT: u32> TreeFile<P, LAYOUT> {
     fn with_pages(self, pages: u32) -> Result<Self, Refused<P::Device>>
         ensures file { IfOk result (λ t. file_in t ≡ file_in self) }
         ensures pages { IfOk result (λ t. (state_of (file_in t)).capacity ≡ pages) }
-        ensures disk { IfErr result (λ back. P.Device.disk back.disk ≡ (state_of (file_in self)).disk) }
-        ensures failures { IfErr result (λ back. P.Device.failures back.disk ≡ (state_of (file_in self)).failures) }
-        ensures fault { IfErr result (λ back. back.fault ≡ FileFault.Damaged) }
-        ensures cause { IfErr result (λ _. (state_of (file_in self)).capacity ≢ pages) }
+        ensures err { IfErr result (λ back. IsTurnedBack pages (file_in self) (P.Device.disk back.disk) (P.Device.failures back.disk) back.fault) }
     {
         if self.table.store.capacity() == pages {
             return Ok(self);
@@ -100,12 +98,7 @@ impl<P: PagesOnDisk, const LAYOUT: u32> TreeFile<P, LAYOUT> {
     /// Opens the table that this disk stores, after a sync, with this many pages in memory: E1, E2, E4, E5, E8.
     fn read(alloc: Global, disk: P::Device, pages: usize) -> Result<Self, Refused<P::Device>>
         requires { pages ≤ 64 }
-        ensures whole { IfOk result (λ t. IsWholeFile LAYOUT (file_in t)) }
-        ensures ok { IfOk result (λ t. IsOpenedFile (StoresTrees LAYOUT) (P.Device.disk disk) (P.Device.failures disk) (state_of (file_in t))) }
-        ensures root { IfOk result (λ t. IsTrue (P.Device.disk disk).honest
-            → HoldsRoot (file_in t).work.store.root (P.Device.disk disk).now.contents) }
-        ensures all { LAYOUT < 3 → IfOk result (λ t. (state_of (file_in t)).capacity ≡ pages_of (P.Device.disk disk)) }
-        ensures alone { IfOk result (λ t. UsesNoOther (file_in t)) }
+        ensures ok { IfOk result (λ t. IsFileRead LAYOUT (P.Device.disk disk) (P.Device.failures disk) (file_in t)) }
         ensures refused { IfErr result (λ back. IsNotOpened (P.Device.disk disk) (P.Device.failures disk)
             (P.Device.disk back.disk) (P.Device.failures back.disk)) }
         ensures cause { IfErr result (λ back. FileOpenCause (in_any (StoresTrees LAYOUT)) (IsOlderTable LAYOUT) (P.Device.disk disk) (P.Device.failures disk)

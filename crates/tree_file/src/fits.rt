@@ -1,7 +1,7 @@
 //! Whether a record fits what is known of its number.
 ghost use Rattle.std.specs.Prelude.{◌≡◌, ◌↔◌, true};
 ghost use Rattle.retrograde.specs.Stored.{FitsState, is_settled as settled_in};
-ghost use Rattle.tree_file.specs.aid.Right.{FitsPlaced, has_place, has_done};
+ghost use Rattle.tree_file.specs.lemmas.Right.{FitsPlaced, has_place, has_done};
 
 use crate::places::Placed;
 use retrograde::{Counts, Record, State};

@@ -1,6 +1,6 @@
 //! The four trees of a table are walked.
 ghost use Rattle.std.specs.Prelude.{◌≤◌, ℕ, List, OnOk, IfErr, IsTrue};
-ghost use Rattle.page_store.specs.aid.Marking.{OnlyMarks};
+ghost use Rattle.page_store.specs.Frames.{OnlyMarks};
 ghost use Rattle.btree.specs.Page.{Item};
 ghost use Rattle.tree_table.specs.declared.tree.Tree.{Tree};
 ghost use Rattle.tree_file.specs.Walked.{AreWalked, ForestCause};

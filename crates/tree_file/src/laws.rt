@@ -6,7 +6,7 @@ ghost use Rattle.game_file.specs.Calls.{IsAsked};
 ghost use Rattle.game_file.specs.Kept.{Kept};
 ghost use Rattle.game_file.specs.Stops.{LeavesNow};
 ghost use Rattle.tree_table.specs.Held.{StoresTrees};
-ghost use Rattle.tree_table.specs.Working.{IsHonestWork, table_now};
+ghost use Rattle.tree_table.specs.WorkTable.{IsHonestWork, table_now};
 ghost use Rattle.tree_file.specs.Calls.{FileStays};
 ghost use Rattle.tree_file.specs.File.{File, IsWholeFile, kept_of, state_of};
 

@@ -1,13 +1,13 @@
 //! One number is read and looked at.
 ghost use Rattle.std.specs.Prelude.{◌≤◌, ℕ, IfOk, OnOk, IfErr};
-ghost use Rattle.page_store.specs.Store.{StoreWorks, IsUnchanged};
+ghost use Rattle.page_store.specs.Frames.{PagesRead};
 ghost use Rattle.btree.specs.Readers.{IsReading};
 ghost use Rattle.tree_table.specs.declared.slot.TreeSlot.{TreeSlot};
 ghost use Rattle.tree_table.specs.declared.tree.Tree.{Tree};
 ghost use Rattle.tree_table.specs.declared.tree.Tree.TheVariants.{Records};
 ghost use Rattle.tree_table.specs.Readers.{IsReaderOf};
-ghost use Rattle.tree_file.specs.aid.CheckReading.{TellsOfEntries, PlainCause};
-ghost use Rattle.tree_file.specs.aid.Right.{IsNumberAt, IsRightPlaced};
+ghost use Rattle.tree_file.specs.lemmas.EntryReads.{TellsOfEntries, PlainCause};
+ghost use Rattle.tree_file.specs.lemmas.Right.{IsNumberAt, IsRightPlaced};
 ghost use Rattle.position_pack.specs.declared.limits.TheConstants.{MAX_PACKED};
 
 use crate::fits::fits_placed;
@@ -27,8 +27,7 @@ pub fn number_at<P: Pages>(
     requires some { 1 ≤ slot.now.sizes.packed }
     requires short { slot.now.sizes.packed ≤ MAX_PACKED }
     ensures number { TellsOfEntries slot.now (P.store store.old) (λ entries. IfOk result (IsNumberAt (entries tree) key.now)) }
-    ensures unchanged { IsUnchanged (P.store store.old) (P.store store.new) }
-    ensures works { StoreWorks (P.store store.old) (P.store store.new) }
+    ensures read { PagesRead (P.store store.old) (P.store store.new) }
     ensures cause { IfErr result (PlainCause (λ entries. (n : ℕ) × IsNumberAt (entries tree) key.now n)
         slot.now (P.store store.old) (P.store store.new)) }
 {
@@ -52,8 +51,7 @@ pub fn number_by<P: Pages>(
     ensures reading { OnOk result (IsReading reader.new (P.store store.new)) }
     ensures number { (slot : TreeSlot) (tree : Tree) → IsReaderOf slot tree reader.old
         → TellsOfEntries slot (P.store store.old) (λ entries. IfOk result (IsNumberAt (entries tree) key.now)) }
-    ensures unchanged { IsUnchanged (P.store store.old) (P.store store.new) }
-    ensures works { StoreWorks (P.store store.old) (P.store store.new) }
+    ensures read { PagesRead (P.store store.old) (P.store store.new) }
     ensures cause { IfErr result (λ fault. (slot : TreeSlot) (tree : Tree) → IsReaderOf slot tree reader.old
         → PlainCause (λ entries. (n : ℕ) × IsNumberAt (entries tree) key.now n) slot (P.store store.old) (P.store store.new) fault) }
 {
@@ -82,8 +80,7 @@ pub fn check_number<P: Pages>(
     ensures of { IsReaderOf slot.now Records reader.new }
     ensures reading { OnOk result (IsReading reader.new (P.store store.new)) }
     ensures right { TellsOfEntries slot.now (P.store store.old) (λ entries. OnOk result (IsRightPlaced slot.now.sizes entries number placed)) }
-    ensures unchanged { IsUnchanged (P.store store.old) (P.store store.new) }
-    ensures works { StoreWorks (P.store store.old) (P.store store.new) }
+    ensures read { PagesRead (P.store store.old) (P.store store.new) }
     ensures cause { IfErr result (PlainCause (λ entries. IsRightPlaced slot.now.sizes entries number placed)
         slot.now (P.store store.old) (P.store store.new)) }
 {

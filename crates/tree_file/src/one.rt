@@ -1,9 +1,9 @@
 //! One of the four trees is walked.
 ghost use Rattle.std.specs.Prelude.{◌≡◌, ◌≤◌, ℕ, List, OnOk, IfErr, IsTrue};
-ghost use Rattle.page_store.specs.aid.Marking.{OnlyMarks};
+ghost use Rattle.page_store.specs.Frames.{OnlyMarks};
 ghost use Rattle.btree.specs.Page.{Item};
 ghost use Rattle.tree_table.specs.declared.tree.Tree.TheVariants.{Edges};
-ghost use Rattle.tree_file.specs.aid.One.{CountIs, EdgesAre, IsAsMany, IsWalkedTree, TreeCause, fault_of};
+ghost use Rattle.tree_file.specs.lemmas.One.{CountIs, EdgesAre, IsAsMany, IsWalkedTree, TreeCause, fault_of};
 ghost use Rattle.position_pack.specs.declared.limits.TheConstants.{MAX_PACKED};
 
 use crate::count::Count;

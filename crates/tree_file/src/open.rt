@@ -1,14 +1,13 @@
 //! All that the root of a file names is read and looked at.
-ghost use Rattle.std.specs.Prelude.{◌≡◌, ◌≤◌, ◌<◌, Some, length, OnErr, IfOk, IfErr, IsTrue};
-ghost use Rattle.sector_disk.specs.Disk.{size, GoesOn, LeavesOnly, MayLeave};
+ghost use Rattle.std.specs.Prelude.{◌≡◌, ◌≤◌, ◌<◌, Some, length, OnErr, IfOk, IfErr};
 ghost use Rattle.page_store.specs.Store.{StoreWorks};
-ghost use Rattle.page_store.specs.aid.Marking.{OnlyMarks};
+ghost use Rattle.page_store.specs.Frames.{IsReadOn, OnlyMarks};
 ghost use Rattle.tree_table.specs.Slot.{SaysTrees};
 ghost use Rattle.game_file.specs.Fields.{commits_in};
 ghost use Rattle.page_store.specs.declared.limits.TheConstants.{MIN_PAGES};
-ghost use Rattle.tree_file.specs.Opening.{IsFoundInFile, IsRootRead, RootCause};
+ghost use Rattle.tree_file.specs.Opened.{IsFoundInFile, IsRootRead, RootCause};
 ghost use Rattle.page_store.specs.Pages.{AllWait};
-ghost use Rattle.tree_file.specs.aid.Reading.{IsReadFor, NoGameReadCause};
+ghost use Rattle.tree_file.specs.lemmas.GameReads.{IsReadFor, NoGameReadCause};
 
 use crate::{check_entries, walk_trees};
 use game_file::{FileFault, word_at};
@@ -66,15 +65,7 @@ pub fn read_all<P: Pages>(alloc: Global, store: &mut P, slot: &Slot) -> Result<V
     requires enough { MIN_PAGES ≤ length (P.store store.old).marks }
     requires waits { AllWait (P.store store.old) }
     ensures found { IfOk result (λ text. IsFoundInFile slot.now.commits slot.now.game text.items (P.store store.new)) }
-    ensures goes_on { GoesOn (P.store store.old).disk (P.store store.new).disk }
-    ensures same_size { size (P.store store.new).disk ≡ size (P.store store.old).disk }
-    ensures failures { (P.store store.old).failures ≤ (P.store store.new).failures }
-    ensures root { (P.store store.new).root ≡ (P.store store.old).root }
-    ensures same_pages { length (P.store store.new).marks ≡ length (P.store store.old).marks }
-    ensures shown { IsTrue (P.store store.old).disk.honest → (P.store store.new).disk.now ≡ (P.store store.old).disk.now }
-    ensures leaves { IsTrue (P.store store.old).disk.honest
-        → LeavesOnly (P.store store.old).disk (P.store store.new).disk (MayLeave (P.store store.old).disk.now) }
-    ensures closed { (P.store store.new).closed ≡ (P.store store.old).closed }
+    ensures on { IsReadOn (P.store store.old) (P.store store.new) }
     ensures works { IfErr result (λ _. StoreWorks (P.store store.old) (P.store store.new)) }
     ensures cause { IfErr result (NoGameReadCause (P.store store.old) (P.store store.new)) }
 {

@@ -1,8 +1,8 @@
 //! What the settled order says of each number.
 ghost use Rattle.std.specs.Prelude.{◌≡◌, ◌≢◌, ◌≤◌, ◌<◌, ℕ, true, false, Some, IfOk, IfErr, length, slice_index_or, slice_set};
-ghost use Rattle.page_store.specs.Store.{StoreWorks, IsUnchanged};
-ghost use Rattle.tree_file.specs.aid.CheckReading.{TellsOfEntries, CheckCause};
-ghost use Rattle.tree_file.specs.aid.Right.{AreRight, AreMarkedByPlaces, placed_of};
+ghost use Rattle.page_store.specs.Frames.{PagesRead};
+ghost use Rattle.tree_file.specs.lemmas.EntryReads.{TellsOfEntries, CheckCause};
+ghost use Rattle.tree_file.specs.lemmas.Right.{AreRight, AreMarkedByPlaces, placed_of};
 ghost use Rattle.tree_file.specs.declared.places.Placed.TheVariants.{Nowhere};
 ghost use Rattle.position_pack.specs.declared.limits.TheConstants.{MAX_PACKED};
 
@@ -69,8 +69,7 @@ pub fn find_places<P: Pages>(
     ensures long { IfOk result (λ placed. length placed.items ≡ slot.now.sizes.counts.known) }
     ensures places { TellsOfEntries slot.now (P.store store.old) (λ entries. IfOk result (λ placed.
         AreMarkedByPlaces slot.now.sizes entries slot.now.sizes.counts.settled placed.items)) }
-    ensures unchanged { IsUnchanged (P.store store.old) (P.store store.new) }
-    ensures works { StoreWorks (P.store store.old) (P.store store.new) }
+    ensures read { PagesRead (P.store store.old) (P.store store.new) }
     ensures cause { IfErr result (CheckCause (λ entries. AreRight slot.now.sizes entries 0 slot.now.sizes.counts.known)
         slot.now (P.store store.old) (P.store store.new)) }
 {

@@ -3,7 +3,7 @@ ghost use Rattle.std.specs.Prelude.{◌≡◌, ◌≢◌, IfOk, IfErr, None};
 ghost use Rattle.game_file.specs.Kept.{goal_kept};
 ghost use Rattle.tree_table.specs.Held.{StoresTrees};
 ghost use Rattle.tree_file.specs.File.{IsWholeFile, kept_of, state_of};
-ghost use Rattle.tree_file.specs.Moving.{IsMoved, IsNotMoved, LeavesPages, RenewCause};
+ghost use Rattle.tree_file.specs.MoveCauses.{IsMoved, IsNotMoved, LeavesPages, RenewCause};
 
 use crate::file::TreeFile;
 use crate::naming::slot_naming;

@@ -2,7 +2,7 @@
 ghost use Rattle.std.specs.Prelude.{◌≢◌, true};
 ghost use Rattle.page_store.specs.Holds.{needed_by};
 ghost use Rattle.page_store.specs.declared.holds.HoldPlace.{HoldPlace};
-ghost use Rattle.tree_table.specs.aid.Versions.{version_kept};
+ghost use Rattle.tree_table.specs.lemmas.Versions.{version_kept};
 ghost use Rattle.tree_file.specs.Versions.{IsVersion};
 
 use crate::file::TreeFile;

@@ -1,10 +1,10 @@
 //! The table that a command has come to, in a file.
 ghost use Rattle.std.specs.Prelude.{refl};
 ghost use Rattle.page_store.specs.Marks.{free_count};
-ghost use Rattle.tree_table.specs.Working.{IsHonestWork, table_now};
-ghost use Rattle.tree_table.specs.aid.Frames as work;
+ghost use Rattle.tree_table.specs.WorkTable.{IsHonestWork, table_now};
+ghost use Rattle.tree_table.specs.lemmas.Frames as work;
 ghost use Rattle.tree_file.specs.Calls.{FileStays, FileGoesOn, FileFails};
-ghost use Rattle.tree_file.specs.aid.Frames as frames;
+ghost use Rattle.tree_file.specs.lemmas.Frames as frames;
 ghost use Rattle.tree_file.specs.InFile.{file_in};
 
 use crate::file::TreeFile;

@@ -1,7 +1,7 @@
 -- A slot that names no page names the pages of no text and of an empty table.
 use Rattle.std.proofs.Common.{inl, ℕ, ◌+◌, ◌≤◌, List, [], length, refl, arith}
 use Rattle.page_store.specs.Store.{Store, reads}
-use Rattle.btree.specs.aid.Laws.{none_contained}
+use Rattle.btree.specs.lemmas.Laws.{none_contained}
 use Rattle.tree_table.specs.declared.tree.Tree.{Tree}
 use Rattle.tree_table.specs.declared.tree.Tree.TheVariants.{Positions, Records, Edges, Order}
 use Rattle.tree_table.specs.Forest.{IsTreeOf}
@@ -11,7 +11,7 @@ use Rattle.position_pack.specs.declared.kind.PackingKind.TheVariants.{Bytes}
 use Rattle.page_chain.specs.Chain.{IsChain}
 use Rattle.btree.specs.Changes.{AreHeld}
 use Rattle.tree_table.specs.Entries.{AreEntriesOf}
-use Rattle.tree_table.specs.Working.{bare_slot, text_slot, HoldsTable}
+use Rattle.tree_table.specs.WorkTable.{bare_slot, text_slot, HoldsTable}
 use Rattle.table.specs.Records.{nothing}
 
 bare_tree : (packed : ℕ) (t : Tree) (capacity : ℕ) (bytes : ℕ → List ℕ) → 1 ≤ packed → packed ≤ 240 → IsTreeOf packed t capacity 0 [] [] bytes
@@ -40,7 +40,8 @@ bare_tree packed Order capacity bytes some few = record {
   map = inl (record { at_none = refl; no_page = refl; no_entry = refl });
 }
 
-bare_root : (packed : ℕ) (t : Tree) (capacity : ℕ) (bytes : ℕ → List ℕ) → 1 ≤ packed → packed ≤ 240 → IsTreeOf packed t capacity (root_of (bare_slot packed).roots t) [] [] bytes
+bare_root : (packed : ℕ) (t : Tree) (capacity : ℕ) (bytes : ℕ → List ℕ) → 1 ≤ packed → packed ≤ 240
+    → IsTreeOf packed t capacity (root_of (bare_slot packed).roots t) [] [] bytes
 bare_root packed Positions capacity bytes some few = bare_tree packed Positions capacity bytes some few
 bare_root packed Records capacity bytes some few = bare_tree packed Records capacity bytes some few
 bare_root packed Edges capacity bytes some few = bare_tree packed Edges capacity bytes some few

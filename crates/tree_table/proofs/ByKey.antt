@@ -8,24 +8,30 @@ use Rattle.std.proofs.lemmas.Option.{slice_get_within}
 use Rattle.std.proofs.lemmas.List.{length-set}
 use Rattle.btree.specs.Page.{Item}
 use Rattle.btree.specs.Entries.{find_entry, put_entry}
-use Rattle.btree.specs.aid.Putting.{a_put_is_found, others_are_found}
+use Rattle.btree.specs.lemmas.PutEntries.{a_put_is_found, others_are_found}
 use Rattle.tree_table.specs.Entries.{number_key, edge_key, AreByNumber, AreByPosition, AreByEdge}
 use Rattle.game_file.specs.Bytes.{IsNumber}
-use Rattle.tree_table.specs.aid.Lists.{set_cases, push_cases, push_keeps, push_last, push_long}
-use Rattle.tree_table.specs.aid.Numbers.{same_number, same_edge}
+use Rattle.tree_table.specs.lemmas.Lists.{set_cases, push_cases, push_keeps, push_last, push_long}
+use Rattle.tree_table.specs.lemmas.Numbers.{same_number, same_edge}
 use Rattle.tree_table.proofs.Puts.{found_now, keys_same}
 
 -- one thing more, with the next number
-pub number_pushed : {A : Type 0} (IsOf : List ℕ → A → Type 0) (es : List Item) (xs : List A) (x : A) (v : List ℕ) → length xs < 2 ^ 32 → AreByNumber IsOf es xs → IsOf v x
+pub number_pushed : {A : Type 0} (IsOf : List ℕ → A → Type 0) (es : List Item) (xs : List A) (x : A) (v : List ℕ) → length xs < 2 ^ 32
+    → AreByNumber IsOf es xs → IsOf v x
     → AreByNumber IsOf (put_entry es (number_key (length xs)) v) (xs ++ x ∷ [])
 number_pushed {A} IsOf es xs x v few are new = record { each = each; only = only }
   where
-    each : (i : ℕ) (y : A) → slice_get (xs ++ x ∷ []) i ≡ Some y → (value : List ℕ) × (find_entry (put_entry es (number_key (length xs)) v) (number_key i) ≡ Some value) × IsOf value y
+    each : (i : ℕ) (y : A) → slice_get (xs ++ x ∷ []) i ≡ Some y → (value : List ℕ)
+        × (find_entry (put_entry es (number_key (length xs)) v) (number_key i) ≡ Some value) × IsOf value y
     each i y at = elim (push_cases xs x i y at) [
       | inl was ↦
           let low : i < length xs = slice_get_within xs i y was in
-          let (value, found, of) = are.each i y was in
-          (value, others_are_found es (number_key (length xs)) v (number_key i) (λ same. let e : i ≡ length xs = same_number i (length xs) (omega (arith, low, few)) few same in omega (arith, e, low)) ∙ found, of)
+          let (value, found, of) = are.each i y was in (
+            value,
+            others_are_found es (number_key (length xs)) v (number_key i)
+                (λ same. let e : i ≡ length xs = same_number i (length xs) (omega (arith, low, few)) few same in omega (arith, e, low)) ∙ found,
+            of,
+          )
       | inr last ↦ (
         v,
         ap (λ (k : ℕ). find_entry (put_entry es (number_key (length xs)) v) (number_key k)) last.0 ∙ a_put_is_found es (number_key (length xs)) v,
@@ -40,17 +46,28 @@ number_pushed {A} IsOf es xs x v few are new = record { each = each; only = only
     ]
 
 -- another thing with one of the numbers
-pub number_set : {A : Type 0} (IsOf : List ℕ → A → Type 0) (es : List Item) (xs : List A) (i : ℕ) (x : A) (v : List ℕ) → length xs < 2 ^ 32 → i < length xs → AreByNumber IsOf es xs → IsOf v x
+pub number_set : {A : Type 0} (IsOf : List ℕ → A → Type 0) (es : List Item) (xs : List A) (i : ℕ) (x : A) (v : List ℕ) → length xs < 2 ^ 32
+    → i < length xs → AreByNumber IsOf es xs → IsOf v x
     → AreByNumber IsOf (put_entry es (number_key i) v) (set xs i x)
 number_set {A} IsOf es xs i x v few low are new = record { each = each; only = only }
   where
-    each : (j : ℕ) (y : A) → slice_get (set xs i x) j ≡ Some y → (value : List ℕ) × (find_entry (put_entry es (number_key i) v) (number_key j) ≡ Some value) × IsOf value y
+    each : (j : ℕ) (y : A) → slice_get (set xs i x) j ≡ Some y → (value : List ℕ)
+        × (find_entry (put_entry es (number_key i) v) (number_key j) ≡ Some value) × IsOf value y
     each j y at = elim (set_cases xs i x j y at) [
-      | inl here ↦ (v, ap (λ (k : ℕ). find_entry (put_entry es (number_key i) v) (number_key k)) here.0 ∙ a_put_is_found es (number_key i) v, subst (λ (z : A). IsOf v z) here.1 new)
+      | inl here ↦ (
+        v,
+        ap (λ (k : ℕ). find_entry (put_entry es (number_key i) v) (number_key k)) here.0
+            ∙ a_put_is_found es (number_key i) v,
+        subst (λ (z : A). IsOf v z) here.1 new,
+      )
       | inr other ↦
           let within : j < length xs = slice_get_within xs j y other.1 in
-          let (value, found, of) = are.each j y other.1 in
-          (value, others_are_found es (number_key i) v (number_key j) (λ same. other.0 (same_number j i (omega (arith, within, few)) (omega (arith, low, few)) same)) ∙ found, of)
+          let (value, found, of) = are.each j y other.1 in (
+            value,
+            others_are_found es (number_key i) v (number_key j)
+                (λ same. other.0 (same_number j i (omega (arith, within, few)) (omega (arith, low, few)) same)) ∙ found,
+            of,
+          )
     ]
 
     only : (k value : List ℕ) → find_entry (put_entry es (number_key i) v) k ≡ Some value → (j : ℕ) × (k ≡ number_key j) × (j < length (set xs i x))
@@ -60,7 +77,8 @@ number_set {A} IsOf es xs i x v few low are new = record { each = each; only = o
     ]
 
 -- one position more
-pub position_pushed : (es : List Item) (xs : List (List ℕ)) (x v : List ℕ) → ((i : ℕ) → slice_get xs i ≡ Some x → ⊥) → AreByPosition es xs → IsNumber v (length xs)
+pub position_pushed : (es : List Item) (xs : List (List ℕ)) (x v : List ℕ) → ((i : ℕ) → slice_get xs i ≡ Some x → ⊥) → AreByPosition es xs
+    → IsNumber v (length xs)
     → AreByPosition (put_entry es x v) (xs ++ x ∷ [])
 position_pushed es xs x v unknown are new = record { each = each; only = only }
   where
@@ -113,7 +131,8 @@ module _ (es : List Item) (known i p : ℕ) (has : ℕ → ℕ → Bool) (few : 
     where
       found : (j q : ℕ) → (edge_key j q ≡ edge_key i p) ⊎ (edge_key j q ≢ edge_key i p) → IsSome (find_entry es (edge_key j q)) ⊎ (edge_key j q ≡ edge_key i p)
           → IsSome (find_entry (put_entry es (edge_key i p) []) (edge_key j q))
-      found j q (inl same) there = ap (λ (k : List ℕ). is_some (find_entry (put_entry es (edge_key i p) []) k)) same ∙ ap is_some (a_put_is_found es (edge_key i p) [])
+      found j q (inl same) there = ap (λ (k : List ℕ). is_some (find_entry (put_entry es (edge_key i p) []) k)) same
+          ∙ ap is_some (a_put_is_found es (edge_key i p) [])
       found j q (inr other) (inl there) = ap is_some (others_are_found es (edge_key i p) [] (edge_key j q) other) ∙ there
       found j q (inr other) (inr same) = absurd (other same)
 
@@ -123,7 +142,8 @@ module _ (es : List Item) (known i p : ℕ) (has : ℕ → ℕ → Bool) (few : 
         | inr here ↦ inr (λ k. edge_key (here.0 k) (here.1 k))
       ])
 
-      only : (k value : List ℕ) → find_entry (put_entry es (edge_key i p) []) k ≡ Some value → (j q : ℕ) × (k ≡ edge_key j q) × ((has j q || (j == i && q == p)) ≡ true)
+      only : (k value : List ℕ) → find_entry (put_entry es (edge_key i p) []) k ≡ Some value → (j q : ℕ) × (k ≡ edge_key j q)
+          × ((has j q || (j == i && q == p)) ≡ true)
       only k value is = elim (found_now es (edge_key i p) [] k value is) [
         | inl here ↦ (i, p, here.0, itself (has i p) i p)
         | inr was ↦ let (j, q, same, there) = are.only k value was.1 in (j, q, same, or_first (has j q) (j == i && q == p) there)

@@ -4,16 +4,17 @@ use Rattle.std.specs.Prelude.{All}
 use Rattle.std.specs.List.{flat_map}
 use Rattle.std.proofs.lemmas.List.Elements.{All-head, All-tail, All-weaker}
 use Rattle.std.proofs.Math.Nat.{mul-le-mul_left}
-use Rattle.btree.specs.aid.Items.{length-items}
+use Rattle.btree.specs.lemmas.Items.{length-items}
 use Rattle.btree.specs.declared.page.kind.Kind.TheVariants.{Leaf, Inner}
 use Rattle.btree.specs.declared.page.widths.Widths.{Widths}
 use Rattle.btree.specs.Page.{Item, items_in, child_of, count_in}
 use Rattle.btree.specs.Entries.{first_key}
 use Rattle.btree.specs.Tree.{entries_below, pages_below, IsTree, IsMap}
-use Rattle.btree.specs.aid.Keeping.{few_pages}
+use Rattle.btree.specs.lemmas.PutFrame.{few_pages}
 use Rattle.std.proofs.Common.{inl, inr, Some}
 
-all_few : (f : Item → List Item) (ps : Item → List ℕ) (cs : List Item) → All (λ c. length (f c) ≤ 4092 * length (ps c)) cs → length (flat_map f cs) ≤ 4092 * length (flat_map ps cs)
+all_few : (f : Item → List Item) (ps : Item → List ℕ) (cs : List Item) → All (λ c. length (f c) ≤ 4092 * length (ps c)) cs
+    → length (flat_map f cs) ≤ 4092 * length (flat_map ps cs)
 all_few f ps [] few = omega arith
 all_few f ps (c ∷ cs) few =
     let P = λ (a : Item). length (f a) ≤ 4092 * length (ps a) in
@@ -25,7 +26,8 @@ all_few f ps (c ∷ cs) few =
 fits : (n k v : ℕ) → 1 ≤ k → n * (k + v) ≤ 4092 → n ≤ 4092
 fits n k v some room = let least : n * 1 ≤ n * (k + v) = mul-le-mul_left n (omega (arith, some)) in omega (arith, least, room)
 
-tree_few : (w : Widths) (bytes : ℕ → List ℕ) (d page : ℕ) → IsTree w bytes d page → length (entries_below w bytes d page) ≤ 4092 * length (pages_below w bytes d page)
+tree_few : (w : Widths) (bytes : ℕ → List ℕ) (d page : ℕ) → IsTree w bytes d page
+    → length (entries_below w bytes d page) ≤ 4092 * length (pages_below w bytes d page)
 tree_few w bytes zero page tree =
     let count : length (items_in w Leaf (bytes page)) ≡ count_in (bytes page) = length-items w.key w.value (count_in (bytes page)) _ in
     let room : count_in (bytes page) ≤ 4092 = fits (count_in (bytes page)) w.key w.value w.some tree.fits in
@@ -40,7 +42,8 @@ tree_few w bytes (suc d) page tree =
     let all : length (flat_map f items) ≤ 4092 * length (flat_map ps items) = all_few f ps items each in
     omega (arith, all)
 
-pub map_few : (w : Widths) (capacity root : ℕ) (pages : List ℕ) (es : List Item) (bytes : ℕ → List ℕ) → capacity ≤ 1048576 → IsMap w capacity root pages es bytes
+pub map_few : (w : Widths) (capacity root : ℕ) (pages : List ℕ) (es : List Item) (bytes : ℕ → List ℕ) → capacity ≤ 1048576
+    → IsMap w capacity root pages es bytes
     → length es ≤ 4290772992
 map_few w capacity root pages es bytes small (inl empty) = subst (λ (xs : List Item). length xs ≤ 4290772992) (sym empty.no_entry) (omega arith)
 map_few w capacity root pages es bytes small (inr map) =

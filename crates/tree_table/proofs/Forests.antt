@@ -1,11 +1,15 @@
 -- Four trees and a text in a store: what is read of them, and what an entry that is put into one leaves.
-use Rattle.std.proofs.Common.{◌≡◌, ◌≢◌, ◌⊎◌, inl, inr, ℕ, List, length, Contains, IsTrue, refl, sym, ◌∙◌, subst}
+use Rattle.std.proofs.Common.{◌≡◌, ◌≢◌, ◌⊎◌, inl, inr, ℕ, ◌+◌, List, length, Contains, IsTrue, refl, sym, ◌∙◌, ap, subst}
 use Rattle.page_store.specs.Store.{Store, reads, StoreWorks}
 use Rattle.page_store.specs.declared.fault.PageFault.{PageFault}
 use Rattle.page_store.specs.declared.fault.PageFault.TheVariants as page
 use Rattle.page_store.specs.declared.marks.Mark.{Mark}
 use Rattle.page_store.specs.declared.marks.Mark.TheVariants.{Committed, Fresh, Free}
-use Rattle.page_store.specs.Marks.{mark}
+use Rattle.page_store.specs.Frames.{PagesWritten}
+use Rattle.page_store.specs.Marks.{mark, free_count}
+use Rattle.page_store.specs.lemmas.Frames.{open_still}
+use Rattle.btree.specs.Entries.{put_entry}
+use Rattle.tree_table.specs.Frames.{IsPutIn}
 use Rattle.btree.specs.Page.{Item}
 use Rattle.btree.specs.declared.page.widths.Widths.{Widths}
 use Rattle.btree.specs.Changes.{HoldsMap, AreHeld, TakePlace, MapReadCause, MapPutCause}
@@ -13,16 +17,23 @@ use Rattle.tree_table.specs.declared.slot.TreeSlot.{TreeSlot}
 use Rattle.tree_table.specs.declared.tree.Tree.{Tree}
 use Rattle.tree_table.specs.Trees.{key_width, value_width, root_of}
 use Rattle.tree_table.specs.Causes.{IsNoForest, HasNoForest, ReadCause, ChangeCause}
-use Rattle.tree_table.specs.Working.{HasForest, HoldsForest, forest_there}
-use Rattle.tree_table.specs.aid.Faults.{fault_of}
-use Rattle.page_chain.specs.aid.Resting.{a_chain_rests_on_its_pages}
+use Rattle.tree_table.specs.WorkTable.{HasForest, HoldsForest, forest_there}
+use Rattle.tree_table.specs.lemmas.Faults.{fault_of}
+use Rattle.page_chain.specs.lemmas.EveryChain.{a_chain_rests_on_its_pages}
 use Rattle.page_chain.specs.Chain.{IsChain}
-use Rattle.btree.specs.aid.Keeping.{another_map_stays, not_taken}
+use Rattle.btree.specs.lemmas.PutFrame.{another_map_stays, not_taken}
 use Rattle.tree_table.specs.declared.tree.Tree.TheVariants.{Positions, Records, Edges, Order}
 use Rattle.tree_table.specs.declared.tree.Roots.{Roots}
 use Rattle.tree_table.specs.Forest.{AreApart, IsTreeOf}
 use Rattle.tree_table.specs.Trees.{with_root, with_at}
 use Rattle.tree_table.proofs.Rooted.{map_of}
+
+-- the root of the tree that has this one
+pub root_with : (roots : Roots) (tree : Tree) (root : ℕ) → root_of (with_root roots tree root) tree ≡ root
+root_with roots Positions root = refl
+root_with roots Records root = refl
+root_with roots Edges root = refl
+root_with roots Order root = refl
 
 -- the map of one of the trees
 pub map_in : (slot : TreeSlot) (text : List ℕ) (entries : Tree → List Item) (store : Store) (w : Widths) (tree : Tree) (root : ℕ)
@@ -30,7 +41,8 @@ pub map_in : (slot : TreeSlot) (text : List ℕ) (entries : Tree → List Item) 
     → (h : HasForest slot text entries store) → HoldsMap w store root (h.pages tree) (entries tree)
 map_in slot text entries store w tree root keys values is h =
     subst (λ (r : ℕ). HoldsMap w store r (h.pages tree) (entries tree)) (sym is)
-    (map_of slot.sizes.packed tree (length store.marks) (root_of slot.roots tree) (h.pages tree) (entries tree) (reads store) w keys values (h.forest.trees tree))
+    (map_of slot.sizes.packed tree (length store.marks) (root_of slot.roots tree) (h.pages tree) (entries tree) (reads store) w keys values
+    (h.forest.trees tree))
 
 -- why nothing is read
 pub read_fails : (slot : TreeSlot) (old new : Store) (w : Widths) (tree : Tree) (root : ℕ) (fault : PageFault)
@@ -116,7 +128,8 @@ free_not_held m (inl is) free = cc
 free_not_held m (inr is) free = cc
 
 -- the same tree
-tree_as : (packed : ℕ) (t : Tree) (capacity root root_now : ℕ) (pages pages_now : List ℕ) (es es_now : List Item) (bytes : ℕ → List ℕ) → root ≡ root_now → pages ≡ pages_now → es ≡ es_now
+tree_as : (packed : ℕ) (t : Tree) (capacity root root_now : ℕ) (pages pages_now : List ℕ) (es es_now : List Item) (bytes : ℕ → List ℕ)
+    → root ≡ root_now → pages ≡ pages_now → es ≡ es_now
     → IsTreeOf packed t capacity root pages es bytes → IsTreeOf packed t capacity root_now pages_now es_now bytes
 tree_as packed t capacity root root_now pages pages_now es es_now bytes roots lists entries is =
     subst (λ (x : ℕ). IsTreeOf packed t capacity x pages_now es_now bytes) roots
@@ -125,32 +138,41 @@ tree_as packed t capacity root root_now pages pages_now es es_now bytes roots li
 
 -- an entry is put into one of the trees: the other trees and the text stay
 module _ (slot : TreeSlot) (text : List ℕ) (entries : Tree → List Item) (old new : Store) (honest : IsTrue old.disk.honest) (works : StoreWorks old new)
-    (h : HoldsForest slot text entries old) (t : Tree) (root : ℕ) (w : Widths) (keys : w.key ≡ key_width slot.sizes.packed t) (values : w.value ≡ value_width slot.sizes.packed t)
+    (h : HoldsForest slot text entries old) (t : Tree) (root : ℕ) (w : Widths) (keys : w.key ≡ key_width slot.sizes.packed t)
+    (values : w.value ≡ value_width slot.sizes.packed t)
     (others : List ℕ) (es : List Item) (holds : HoldsMap w new root others es) (change : TakePlace (h.pages t) others old new) where
   -- another of the trees
-  stays : (u : Tree) → t ≢ u → IsTreeOf slot.sizes.packed u (length new.marks) (root_of slot.roots u) (h.pages u) (entries u) (reads new) × AreHeld new.marks (h.pages u)
+  stays : (u : Tree) → t ≢ u → IsTreeOf slot.sizes.packed u (length new.marks) (root_of slot.roots u) (h.pages u) (entries u) (reads new)
+      × AreHeld new.marks (h.pages u)
       × AreApart others (h.pages u)
   stays u other =
       let tree = h.forest.trees u in
-      let kept = another_map_stays tree.widths old new (h.pages t) others honest works change (root_of slot.roots u) (h.pages u) (entries u) tree.map (h.held u) (h.forest.apart t u other) in
+      let kept = another_map_stays tree.widths old new (h.pages t) others honest works change (root_of slot.roots u) (h.pages u)
+      (entries u) tree.map (h.held u) (h.forest.apart t u other) in
       (record { widths = tree.widths; keys = tree.keys; values = tree.values; map = kept.0 }, kept.1, kept.2)
 
   -- the tree that has the entry now
   changed : IsTreeOf slot.sizes.packed t (length new.marks) root others es (reads new)
   changed = record { widths = w; keys = keys; values = values; map = holds }
 
-  trees_now : (u : Tree) → IsTreeOf slot.sizes.packed u (length new.marks) (root_of (with_root slot.roots t root) u) (with_at h.pages t others u) (with_at entries t es u) (reads new)
+  trees_now : (u : Tree) → IsTreeOf slot.sizes.packed u (length new.marks) (root_of (with_root slot.roots t root) u)
+      (with_at h.pages t others u) (with_at entries t es u) (reads new)
   trees_now u = elim (same_or_other t u) [
-    | inl same ↦ subst (λ (v : Tree). IsTreeOf slot.sizes.packed v (length new.marks) (root_of (with_root slot.roots t root) v) (with_at h.pages t others v) (with_at entries t es v) (reads new)) same
-        (tree_as slot.sizes.packed t (length new.marks) root (root_of (with_root slot.roots t root) t) others (with_at h.pages t others t) es (with_at entries t es t) (reads new)
+    | inl same ↦ subst (λ (v : Tree). IsTreeOf slot.sizes.packed v (length new.marks) (root_of (with_root slot.roots t root) v)
+        (with_at h.pages t others v) (with_at entries t es v) (reads new)) same
+        (tree_as slot.sizes.packed t (length new.marks) root (root_of (with_root slot.roots t root) t) others
+        (with_at h.pages t others t) es (with_at entries t es t) (reads new)
         (sym (root_same slot.roots t root)) (sym (at_same h.pages t others)) (sym (at_same entries t es)) changed)
-    | inr other ↦ tree_as slot.sizes.packed u (length new.marks) (root_of slot.roots u) (root_of (with_root slot.roots t root) u) (h.pages u) (with_at h.pages t others u) (entries u) (with_at entries t es u)
-        (reads new) (sym (root_other slot.roots t u root other)) (sym (at_other h.pages t u others other)) (sym (at_other entries t u es other)) (stays u other).0
+    | inr other ↦ tree_as slot.sizes.packed u (length new.marks) (root_of slot.roots u) (root_of (with_root slot.roots t root) u)
+        (h.pages u) (with_at h.pages t others u) (entries u) (with_at entries t es u)
+        (reads new) (sym (root_other slot.roots t u root other)) (sym (at_other h.pages t u others other))
+        (sym (at_other entries t u es other)) (stays u other).0
   ]
 
   held_now : (u : Tree) → AreHeld new.marks (with_at h.pages t others u)
   held_now u = elim (same_or_other t u) [
-    | inl same ↦ subst (λ (v : Tree). AreHeld new.marks (with_at h.pages t others v)) same (subst (λ (x : List ℕ). AreHeld new.marks x) (sym (at_same h.pages t others)) change.held)
+    | inl same ↦ subst (λ (v : Tree). AreHeld new.marks (with_at h.pages t others v)) same
+        (subst (λ (x : List ℕ). AreHeld new.marks x) (sym (at_same h.pages t others)) change.held)
     | inr other ↦ subst (λ (x : List ℕ). AreHeld new.marks x) (sym (at_other h.pages t u others other)) (stays u other).1
   ]
 
@@ -166,7 +188,8 @@ module _ (slot : TreeSlot) (text : List ℕ) (entries : Tree → List Item) (old
 
   text_held_now : AreHeld new.marks h.text_pages
   text_held_now p here =
-      subst (λ (m : Mark). (m ≡ Committed) ⊎ (m ≡ Fresh)) (sym (change.kept p (λ inside. h.forest.text_apart t p here inside) (text_apart_now p here))) (h.text_held p here)
+      subst (λ (m : Mark). (m ≡ Committed) ⊎ (m ≡ Fresh))
+      (sym (change.kept p (λ inside. h.forest.text_apart t p here inside) (text_apart_now p here))) (h.text_held p here)
 
   in_others : (u : Tree) (p : ℕ) → t ≡ u → Contains (with_at h.pages t others u) p → Contains others p
   in_others u p same here =
@@ -214,7 +237,26 @@ pub put_fails : (slot : TreeSlot) (old new : Store) (w : Widths) (tree : Tree) (
 put_fails slot old new w tree root page.Disk keys values is cause = cause
 put_fails slot old new w tree root page.NotATable keys values is cause = absurd cause
 put_fails slot old new w tree root page.Damaged keys values is cause =
-    λ honest text entries h. cause honest (h.pages tree) (entries tree) (map_in slot text entries old w tree root keys values is (forest_there slot text entries old h))
+    λ honest text entries h. cause honest (h.pages tree) (entries tree)
+    (map_in slot text entries old w tree root keys values is (forest_there slot text entries old h))
 put_fails slot old new w tree root page.TableFull keys values is cause = cause
 put_fails slot old new w tree root page.OutOfMemory keys values is cause = absurd cause
 put_fails slot old new w tree root page.Closed keys values is cause = cause
+
+-- the slot with a tree's new root, once an entry was put into the tree
+pub put_is : (slot : TreeSlot) (tree : Tree) (key value : List ℕ) (old new : Store) (w : Widths) (at root : ℕ)
+    → w.key ≡ key_width slot.sizes.packed tree → w.value ≡ value_width slot.sizes.packed tree → at ≡ root_of slot.roots tree
+    → (IsTrue old.disk.honest → (pages : List ℕ) (es : List Item) → HoldsMap w old at pages es → AreHeld old.marks pages
+    → (others : List ℕ) × HoldsMap w new root others (put_entry es key value) × TakePlace pages others old new)
+    → PagesWritten 49 old new → (at ≡ 0 → free_count new.marks + 1 ≡ free_count old.marks)
+    → IsPutIn slot tree key value old new (record slot { roots = with_root slot.roots tree root })
+put_is slot tree key value old new w at root keys values is map put first = record {
+  slot = record { packing = refl; goal = refl; first = refl; sizes = refl };
+  roots = ap (λ (n : ℕ). with_root slot.roots tree n) (sym (root_with slot.roots tree root));
+  map = λ honest text entries h.
+      let other = map honest (h.pages tree) (entries tree)
+      (map_in slot text entries old w tree at keys values is (forest_there slot text entries old h)) (h.held tree) in
+      put_holds slot text entries old new honest put.works h tree root w keys values other.0 (put_entry (entries tree) key value) other.1 other.2;
+  first = λ none. first (is ∙ none);
+  written = record { works = put.works; still = open_still put.works put.open; takes = put.takes };
+}

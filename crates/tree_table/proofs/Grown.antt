@@ -6,18 +6,18 @@ use Rattle.page_store.specs.declared.fault.PageFault.{PageFault}
 use Rattle.page_store.specs.declared.marks.Mark.{Mark}
 use Rattle.page_store.specs.declared.marks.Mark.TheVariants.{Committed, Waiting, Fresh}
 use Rattle.page_store.specs.Marks.{mark, needs, is_past, rests}
-use Rattle.page_store.specs.Spelling.{IsCalm}
+use Rattle.page_store.specs.Spelled.{IsCalm}
 use Rattle.page_store.specs.Store.{Store, IsStoreGrown, reads}
-use Rattle.page_store.specs.aid.Carrying.{grown_calm}
+use Rattle.page_store.specs.lemmas.Carried.{grown_calm}
 use Rattle.retrograde.specs.Stored.{Stored}
 use Rattle.tree_table.specs.declared.slot.TreeSlot.{TreeSlot}
-use Rattle.tree_table.specs.Keeping.{IsOneOf, IsStill}
+use Rattle.tree_table.specs.KeptTrees.{IsOneOf, IsStill}
 use Rattle.tree_table.specs.Trees.{root_of}
-use Rattle.tree_table.specs.Working.{work_of, table_now, HoldsTable, HoldsWork}
-use Rattle.tree_table.specs.aid.Growing.{grown_mark}
-use Rattle.tree_table.specs.aid.Keeping.{forest_fits_more, forest_rests}
-use Rattle.btree.specs.aid.Laws.{a_map_is_prepared}
-use Rattle.tree_table.proofs.Holding.{holds_itself}
+use Rattle.tree_table.specs.WorkTable.{work_of, table_now, HoldsTable, HoldsWork}
+use Rattle.tree_table.specs.lemmas.Growth.{grown_mark}
+use Rattle.tree_table.specs.lemmas.KeptPages.{forest_fits_more, forest_rests}
+use Rattle.btree.specs.lemmas.Laws.{a_map_is_prepared}
+use Rattle.tree_table.proofs.HeldTable.{holds_itself}
 
 -- the pages of a table that is held are there
 there : (slot : TreeSlot) (text : List ℕ) (table : Stored (List ℕ)) (store : Store) (h : HoldsTable slot text table store) (p : ℕ)

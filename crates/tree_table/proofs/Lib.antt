@@ -7,13 +7,13 @@ mod Tables
 mod Few
 mod Found
 mod KeyOrder
-mod Reading
+mod TableReads
 mod NextEdges
-pub mod Holding
-mod Seeing
+pub mod HeldTable
+mod LastCell
 pub mod Limits
-mod Committing
-mod Loading
+mod Commits
+mod FirstTable
 mod Grown
 pub mod Bare
 mod Versions

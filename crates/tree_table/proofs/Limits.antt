@@ -49,7 +49,21 @@ within_limits table sizes is counts text packed few =
       known = few;
       expanded = omega (arith, expanded, known, is.records, count_by-le-length (λ r. is_expanded r.state) table.records);
       settled =
-          omega (arith, settled, expanded, is.counted, count_le (λ r. is_settled r.state) (λ r. is_expanded r.state) (λ r. settled_expanded r.state) table.records);
+          omega (
+            arith,
+            settled,
+            expanded,
+            is.counted,
+            count_le (λ r. is_settled r.state) (λ r. is_expanded r.state)
+                (λ r. settled_expanded r.state) table.records,
+          );
       processed =
-          omega (arith, settled, processed, is.counted, count_le (λ r. is_processed r.state) (λ r. is_settled r.state) (λ r. processed_settled r.state) table.records);
+          omega (
+            arith,
+            settled,
+            processed,
+            is.counted,
+            count_le (λ r. is_processed r.state) (λ r. is_settled r.state)
+                (λ r. processed_settled r.state) table.records,
+          );
     }

@@ -18,23 +18,24 @@ use Rattle.btree.specs.declared.page.widths.Widths.{Widths}
 use Rattle.btree.specs.Entries.{Ascend, find_entry, next_after}
 use Rattle.btree.specs.Next.{IsNextEntry}
 use Rattle.btree.specs.Tree.{IsMap}
-use Rattle.btree.specs.aid.Next.{the_next_is_the_least, no_next_is_greater}
-use Rattle.btree.specs.aid.Order.{ascend_none, same_key}
+use Rattle.btree.specs.lemmas.Next.{the_next_is_the_least, no_next_is_greater}
+use Rattle.btree.specs.lemmas.Order.{ascend_none, same_key}
 use Rattle.tree_table.specs.declared.slot.TreeSlot.{TreeSlot}
 use Rattle.tree_table.specs.declared.tree.Tree.TheVariants.{Edges}
 use Rattle.tree_table.specs.Entries.{number_key, edge_key}
 use Rattle.tree_table.specs.Trees.{root_of}
-use Rattle.tree_table.specs.Working.{HasTable}
-use Rattle.tree_table.specs.aid.Keys.{key_behind}
+use Rattle.tree_table.specs.WorkTable.{HasTable}
+use Rattle.tree_table.specs.lemmas.Keys.{key_behind}
 use Rattle.tree_table.proofs.KeyOrder.{keys_cmp, number_cmp}
-use Rattle.tree_table.specs.aid.Numbers.{key_long, key_back, edge_long}
+use Rattle.tree_table.specs.lemmas.Numbers.{key_long, key_back, edge_long}
 
 -- what is found is there, and what is there is found
 is_there : (es : List Item) (key value : List ℕ) → find_entry es key ≡ Some value → Contains es (key, value)
 is_there [] key value is = absurd (cc)
 is_there (e ∷ es) key value is = by_order (is_there es key value) (key_cmp key e.0) refl is
   where
-    by_order : (find_entry es key ≡ Some value → Contains es (key, value)) → (o : Ordering) → key_cmp key e.0 ≡ o → cond (is_eq o) (Some e.1) (find_entry es key) ≡ Some value
+    by_order : (find_entry es key ≡ Some value → Contains es (key, value)) → (o : Ordering) → key_cmp key e.0 ≡ o
+        → cond (is_eq o) (Some e.1) (find_entry es key) ≡ Some value
         → Contains (e ∷ es) (key, value)
     by_order rest Less order at = let (k, low, got) = rest at in (suc k, omega (arith, low), got)
     by_order rest Equal order at =
@@ -96,13 +97,15 @@ first_upto a b o is = elim (cases_order a b) [
 module _ (slot : TreeSlot) (text : List ℕ) (table : Stored (List ℕ)) (old : Store) (few : slot.sizes.counts.known ≤ 2 ^ 24) (h : HasTable slot text table old)
     (s : ℕ) (small : s < 2 ^ 32) (after : Option ℕ) (short : IfSome after (λ n. n < 2 ^ 32)) where
   ascending : Ascend (h.entries Edges)
-  ascending = let tree = h.forest.forest.trees Edges in ascends tree.widths (length old.marks) (root_of slot.roots Edges) (h.forest.pages Edges) (h.entries Edges) (reads old) tree.map
+  ascending = let tree = h.forest.forest.trees Edges in ascends tree.widths (length old.marks) (root_of slot.roots Edges)
+      (h.forest.pages Edges) (h.entries Edges) (reads old) tree.map
 
   known : (i p : ℕ) → table.has_edge i p ≡ true → (i < 2 ^ 32) × (p < 2 ^ 32) × (p < slot.sizes.counts.known)
   known i p has = let (low, less) = h.spelled.edges.between i p has in (omega (arith, low, few), omega (arith, less, few), less)
 
   -- the key that is asked for, and that of an edge to j from p
-  asked : (o : Option ℕ) → IfSome o (λ n. n < 2 ^ 32) → (j p : ℕ) → j < 2 ^ 32 → p < 2 ^ 32 → (rest : Ordering) × (key_cmp (key_behind s o) (edge_key j p) ≡ ordering_then (nat_cmp s j) rest)
+  asked : (o : Option ℕ) → IfSome o (λ n. n < 2 ^ 32) → (j p : ℕ) → j < 2 ^ 32 → p < 2 ^ 32 → (rest : Ordering)
+      × (key_cmp (key_behind s o) (edge_key j p) ≡ ordering_then (nat_cmp s j) rest)
       × (IsAfter o p → rest ≡ Less) × (rest ≡ Less → IsAfter o p)
   asked None tiny j p a b =
       (Less, ap (λ (k : List ℕ). key_cmp k (edge_key j p)) (sym (append-nil (number_key s))) ∙ keys_cmp s j [] (number_key p) small a, λ later. refl, λ is. tt)
@@ -183,7 +186,8 @@ module _ (slot : TreeSlot) (text : List ℕ) (table : Stored (List ℕ)) (old : 
       later same =
           let (a, b, c) = known m n read.0 in
           let (rest, is, onward, back) = asked after short m n a b in
-          back (sym (ap (λ (o : Ordering). ordering_then o rest) (equal s m (sym same))) ∙ sym is ∙ ap (key_cmp (key_behind s after)) (sym read.1) ∙ least.greater)
+          back (sym (ap (λ (o : Ordering). ordering_then o rest) (equal s m (sym same))) ∙ sym is
+          ∙ ap (key_cmp (key_behind s after)) (sym read.1) ∙ least.greater)
 
       pub next_edge : m ≡ s → IsNextEdge table s after n
       next_edge same = record {
@@ -195,7 +199,8 @@ module _ (slot : TreeSlot) (text : List ℕ) (table : Stored (List ℕ)) (old : 
             let (f, at, key) = there q has in
             let bound : is_gt (key_cmp e.0 f.0) ≡ false = least.least f at (ap (key_cmp (key_behind s after)) key ∙ past q has further) in
             let order : key_cmp e.0 f.0 ≡ nat_cmp n q =
-            (λ i. key_cmp (read.1 i) (key i)) ∙ keys_cmp m s (number_key n) (number_key q) a aq ∙ ap (λ (o : Ordering). ordering_then o (key_cmp (number_key n) (number_key q))) (equal m s same)
+            (λ i. key_cmp (read.1 i) (key i)) ∙ keys_cmp m s (number_key n) (number_key q) a aq
+            ∙ ap (λ (o : Ordering). ordering_then o (key_cmp (number_key n) (number_key q))) (equal m s same)
             ∙ number_cmp n q b bq in
             upto_then n q (sym (ap is_gt order) ∙ bound);
       }

@@ -7,8 +7,8 @@ use Rattle.std.specs.declared.cmp.Ordering.TheVariants.{Less, Equal, Greater}
 use Rattle.std.specs.Ordering.{is_eq, match_ordering}
 use Rattle.btree.specs.Page.{Item, key_cmp}
 use Rattle.btree.specs.Entries.{find_entry, put_entry}
-use Rattle.btree.specs.aid.Order.{same_key}
-use Rattle.btree.specs.aid.Putting.{a_put_is_found, others_are_found}
+use Rattle.btree.specs.lemmas.Order.{same_key}
+use Rattle.btree.specs.lemmas.PutEntries.{a_put_is_found, others_are_found}
 
 -- two keys are the same or not
 pub keys_same : (a b : List ℕ) → (a ≡ b) ⊎ (a ≢ b)

@@ -21,6 +21,7 @@ same_widths v w keys values = λ i. record {
 
 -- the map that a tree of a table is
 pub map_of : (packed : ℕ) (tree : Tree) (capacity root : ℕ) (pages : List ℕ) (es : List Item) (bytes : ℕ → List ℕ) (w : Widths)
-    → w.key ≡ key_width packed tree → w.value ≡ value_width packed tree → IsTreeOf packed tree capacity root pages es bytes → IsMap w capacity root pages es bytes
+    → w.key ≡ key_width packed tree → w.value ≡ value_width packed tree → IsTreeOf packed tree capacity root pages es bytes
+    → IsMap w capacity root pages es bytes
 map_of packed tree capacity root pages es bytes w keys values is =
     subst (λ (v : Widths). IsMap v capacity root pages es bytes) (same_widths is.widths w (is.keys ∙ sym keys) (is.values ∙ sym values)) is.map

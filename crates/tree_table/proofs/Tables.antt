@@ -18,11 +18,11 @@ use Rattle.tree_table.specs.declared.tree.Tree.{Tree}
 use Rattle.tree_table.specs.declared.tree.Tree.TheVariants.{Positions, Records, Edges, Order}
 use Rattle.tree_table.specs.Entries.{number_key, edge_key, AreByNumber}
 use Rattle.tree_table.specs.Forest.{IsForest}
-use Rattle.tree_table.specs.Working.{HoldsForest, HoldsTable, with_entry}
-use Rattle.tree_table.specs.aid.Slots.{counts_with, recounted}
+use Rattle.tree_table.specs.WorkTable.{HoldsForest, HoldsTable, with_entry}
+use Rattle.tree_table.specs.lemmas.Slots.{counts_with, recounted}
 use Rattle.tree_table.proofs.ByKey.{number_pushed, number_set, position_pushed, edge_added, edge_again, edges_fit}
-use Rattle.tree_table.specs.aid.Lists.{push_long, zip_push, zip_long, zip_set, count_push, recounted_is}
-use Rattle.tree_table.specs.aid.Numbers.{key_number}
+use Rattle.tree_table.specs.lemmas.Lists.{push_long, zip_push, zip_long, zip_set, count_push, recounted_is}
+use Rattle.tree_table.specs.lemmas.Numbers.{key_number}
 use Rattle.tree_table.proofs.Puts.{one_more}
 
 -- the slot with this packing, goal, roots and sizes
@@ -54,7 +54,8 @@ pub plain_long : (packed : ℕ) (bytes : List ℕ) (cell : List ℕ × Record) �
 plain_long packed bytes cell plain = omega (arith, ap length plain.is, length-append cell.0 plain.behind, plain.long, plain.is_record.is.long)
 
 -- pages tell nothing of counts
-pub forest_as : (kind : PackingKind) (goal first : ℕ) (sizes others : Sizes) (roots : Roots) (text : List ℕ) (entries : Tree → List Item) (store : Store) → others.packed ≡ sizes.packed
+pub forest_as : (kind : PackingKind) (goal first : ℕ) (sizes others : Sizes) (roots : Roots) (text : List ℕ) (entries : Tree → List Item)
+    (store : Store) → others.packed ≡ sizes.packed
     → HoldsForest (slot_of kind goal first sizes roots) text entries store → HoldsForest (slot_of kind goal first others roots) text entries store
 forest_as kind goal first sizes others roots text entries store packed h = record {
   text_pages = h.text_pages;
@@ -64,7 +65,8 @@ forest_as kind goal first sizes others roots text entries store packed h = recor
   held = h.held;
 }
 
-module _ (slot : TreeSlot) (text : List ℕ) (table : Stored (List ℕ)) (old : Store) (few : slot.sizes.counts.known ≤ 2 ^ 24) (h : HoldsTable slot text table old) where
+module _ (slot : TreeSlot) (text : List ℕ) (table : Stored (List ℕ)) (old : Store) (few : slot.sizes.counts.known ≤ 2 ^ 24)
+    (h : HoldsTable slot text table old) where
   -- as many records as positions
   pub as_many : length table.records ≡ length table.positions
   as_many = h.spelled.recorded ∙ sym h.spelled.known
@@ -73,9 +75,11 @@ module _ (slot : TreeSlot) (text : List ℕ) (table : Stored (List ℕ)) (old : 
   cells_long = zip_long table.positions table.records as_many ∙ h.spelled.known
 
   -- a position is added
-  pub position_added : (kind : PackingKind) (goal first : ℕ) (roots : Roots) (x cell : List ℕ) (new : Store) → slot.sizes.counts.known < 2 ^ 24 → ((i : ℕ) → slice_get table.positions i ≡ Some x → ⊥)
+  pub position_added : (kind : PackingKind) (goal first : ℕ) (roots : Roots) (x cell : List ℕ) (new : Store)
+      → slot.sizes.counts.known < 2 ^ 24 → ((i : ℕ) → slice_get table.positions i ≡ Some x → ⊥)
       → IsCell slot.sizes.packed cell (x, fresh_record)
-      → HoldsForest (slot_of kind goal first slot.sizes roots) text (with_entry (with_entry h.entries Positions x (number_key slot.sizes.counts.known)) Records (number_key slot.sizes.counts.known) cell) new
+      → HoldsForest (slot_of kind goal first slot.sizes roots) text
+      (with_entry (with_entry h.entries Positions x (number_key slot.sizes.counts.known)) Records (number_key slot.sizes.counts.known) cell) new
       → HoldsTable (slot_of kind goal first (known_as slot.sizes (slot.sizes.counts.known + 1)) roots) text (with_position table x) new
   position_added kind goal first roots x cell new room unknown is forest =
       let sizes_now = known_as slot.sizes (slot.sizes.counts.known + 1) in
@@ -97,8 +101,10 @@ module _ (slot : TreeSlot) (text : List ℕ) (table : Stored (List ℕ)) (old : 
           records =
               subst (λ (cells : List (List ℕ × Record)). AreByNumber (IsCell slot.sizes.packed) (put_entry (h.entries Records) key cell) cells)
               (sym (zip_push table.positions table.records x fresh_record as_many))
-              (subst (λ (m : ℕ). AreByNumber (IsCell slot.sizes.packed) (put_entry (h.entries Records) (number_key m) cell) (zip table.positions table.records ++ (x, fresh_record) ∷ [])) cells_long
-              (number_pushed (IsCell slot.sizes.packed) (h.entries Records) (zip table.positions table.records) (x, fresh_record) cell (omega (arith, cells_long, small)) h.spelled.records is));
+              (subst (λ (m : ℕ). AreByNumber (IsCell slot.sizes.packed) (put_entry (h.entries Records) (number_key m) cell)
+              (zip table.positions table.records ++ (x, fresh_record) ∷ [])) cells_long
+              (number_pushed (IsCell slot.sizes.packed) (h.entries Records) (zip table.positions table.records) (x, fresh_record) cell
+              (omega (arith, cells_long, small)) h.spelled.records is));
           edges = edges_fit (h.entries Edges) slot.sizes.counts.known (slot.sizes.counts.known + 1) table.has_edge (omega arith) h.spelled.edges;
           order = h.spelled.order;
         };
@@ -111,10 +117,12 @@ module _ (slot : TreeSlot) (text : List ℕ) (table : Stored (List ℕ)) (old : 
       }
 
   -- a record is written
-  pub record_set : (kind : PackingKind) (goal first : ℕ) (roots : Roots) (i : ℕ) (x cell : List ℕ) (was kept : Record) (new : Store) → i < slot.sizes.counts.known → slice_get table.positions i ≡ Some x → HasRecord table i was
+  pub record_set : (kind : PackingKind) (goal first : ℕ) (roots : Roots) (i : ℕ) (x cell : List ℕ) (was kept : Record) (new : Store)
+      → i < slot.sizes.counts.known → slice_get table.positions i ≡ Some x → HasRecord table i was
       → IsCell slot.sizes.packed cell (x, kept)
       → HoldsForest (slot_of kind goal first slot.sizes roots) text (with_entry h.entries Records (number_key i) cell) new
-      → HoldsTable (slot_of kind goal first (counted_as slot.sizes (counts_with slot.sizes.counts was.state kept.state)) roots) text (with_record table i kept) new
+      → HoldsTable (slot_of kind goal first (counted_as slot.sizes (counts_with slot.sizes.counts was.state kept.state)) roots) text
+      (with_record table i kept) new
   record_set kind goal first roots i x cell was kept new low at had is forest =
       let sizes_now = counted_as slot.sizes (counts_with slot.sizes.counts was.state kept.state) in
       let entries = with_entry h.entries Records (number_key i) cell in
@@ -131,7 +139,8 @@ module _ (slot : TreeSlot) (text : List ℕ) (table : Stored (List ℕ)) (old : 
           records =
               subst (λ (cells : List (List ℕ × Record)). AreByNumber (IsCell slot.sizes.packed) (put_entry (h.entries Records) (number_key i) cell) cells)
               (sym (zip_set table.positions table.records i x kept at))
-              (number_set (IsCell slot.sizes.packed) (h.entries Records) (zip table.positions table.records) i (x, kept) cell (omega (arith, cells_long, few)) (omega (arith, cells_long, low)) h.spelled.records is);
+              (number_set (IsCell slot.sizes.packed) (h.entries Records) (zip table.positions table.records) i (x, kept) cell
+              (omega (arith, cells_long, few)) (omega (arith, cells_long, low)) h.spelled.records is);
           edges = h.spelled.edges;
           order = h.spelled.order;
         };
@@ -146,7 +155,8 @@ module _ (slot : TreeSlot) (text : List ℕ) (table : Stored (List ℕ)) (old : 
       }
 
   -- an edge is added
-  pub edge_put : (kind : PackingKind) (goal first : ℕ) (roots : Roots) (i p : ℕ) (new : Store) → i < slot.sizes.counts.known → p < slot.sizes.counts.known → find_entry (h.entries Edges) (edge_key i p) ≡ None
+  pub edge_put : (kind : PackingKind) (goal first : ℕ) (roots : Roots) (i p : ℕ) (new : Store) → i < slot.sizes.counts.known
+      → p < slot.sizes.counts.known → find_entry (h.entries Edges) (edge_key i p) ≡ None
       → HoldsForest (slot_of kind goal first slot.sizes roots) text (with_entry h.entries Edges (edge_key i p) []) new
       → HoldsTable (slot_of kind goal first (edges_as slot.sizes (slot.sizes.edges + 1)) roots) text (with_edge table i p) new
   edge_put kind goal first roots i p new to from none forest =
@@ -168,7 +178,8 @@ module _ (slot : TreeSlot) (text : List ℕ) (table : Stored (List ℕ)) (old : 
       }
 
   -- or was there
-  pub edge_stays : (i p : ℕ) (value : List ℕ) (new : Store) → i < slot.sizes.counts.known → p < slot.sizes.counts.known → find_entry (h.entries Edges) (edge_key i p) ≡ Some value
+  pub edge_stays : (i p : ℕ) (value : List ℕ) (new : Store) → i < slot.sizes.counts.known → p < slot.sizes.counts.known
+      → find_entry (h.entries Edges) (edge_key i p) ≡ Some value
       → HoldsForest slot text h.entries new → HoldsTable slot text (with_edge table i p) new
   edge_stays i p value new to from is forest = record {
     entries = h.entries;
@@ -187,7 +198,8 @@ module _ (slot : TreeSlot) (text : List ℕ) (table : Stored (List ℕ)) (old : 
   }
 
   -- a number is settled
-  pub number_settled : (kind : PackingKind) (goal first : ℕ) (roots : Roots) (i : ℕ) (new : Store) → slot.sizes.counts.settled < slot.sizes.counts.known → i < 2 ^ 32
+  pub number_settled : (kind : PackingKind) (goal first : ℕ) (roots : Roots) (i : ℕ) (new : Store)
+      → slot.sizes.counts.settled < slot.sizes.counts.known → i < 2 ^ 32
       → HoldsForest (slot_of kind goal first slot.sizes roots) text (with_entry h.entries Order (number_key slot.sizes.counts.settled) (number_key i)) new
       → HoldsTable (slot_of kind goal first (settled_as slot.sizes (slot.sizes.counts.settled + 1)) roots) text (with_settled table i) new
   number_settled kind goal first roots i new low small forest =
@@ -206,7 +218,8 @@ module _ (slot : TreeSlot) (text : List ℕ) (table : Stored (List ℕ)) (old : 
           edges = h.spelled.edges;
           order =
               subst (λ (m : ℕ). AreByNumber IsNumber (put_entry (h.entries Order) (number_key m) (number_key i)) (table.order ++ i ∷ [])) h.spelled.settled
-              (number_pushed IsNumber (h.entries Order) table.order i (number_key i) (omega (arith, h.spelled.settled, low, few)) h.spelled.order (key_number i small));
+              (number_pushed IsNumber (h.entries Order) table.order i (number_key i)
+              (omega (arith, h.spelled.settled, low, few)) h.spelled.order (key_number i small));
         };
         counts = λ k. record {
           known = (ap (λ (c : Counts). c.known) h.counts) k;

@@ -14,9 +14,9 @@ use Rattle.retrograde.specs.Stored.{Stored}
 use Rattle.tree_table.specs.declared.slot.TreeSlot.{TreeSlot}
 use Rattle.tree_table.specs.Spelled.{table_in}
 use Rattle.tree_table.specs.Versions.{StandsInVersion}
-use Rattle.tree_table.specs.Working.{work_of, IsHonestWork, HoldsTable, HoldsWork, HasTable}
-use Rattle.tree_table.specs.aid.Frames.{table_still}
-use Rattle.tree_table.proofs.Committing.{held_on}
+use Rattle.tree_table.specs.WorkTable.{work_of, IsHonestWork, HoldsTable, HoldsWork, HasTable}
+use Rattle.tree_table.specs.lemmas.Frames.{table_still}
+use Rattle.tree_table.proofs.Commits.{held_on}
 
 same_reads : (old new : Store) → new.disk ≡ old.disk → reads new ≡ reads old
 same_reads old new disk = ap (λ (d : Disk). λ (p : ℕ). page d.now.contents p) disk

@@ -9,7 +9,7 @@ use Rattle.table.specs.declared.fault.TableFault.TheVariants.{Disk, Damaged, Tab
 use Rattle.btree.specs.Page.{Item}
 use Rattle.tree_table.specs.declared.slot.TreeSlot.{TreeSlot}
 use Rattle.tree_table.specs.declared.tree.Tree.{Tree}
-use Rattle.tree_table.specs.Working.{HasForest, HasTable, HoldsForest, HoldsTable}
+use Rattle.tree_table.specs.WorkTable.{HasForest, HasTable, HoldsForest, HoldsTable}
 use Rattle.page_chain.specs.declared.page.TheConstants.{PAYLOAD}
 
 -- no four trees are there, as far as the disk is honest

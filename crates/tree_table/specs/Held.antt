@@ -27,7 +27,7 @@ pub record KeepsOnPages (root : List ℕ) (capacity : ℕ) (kept : Kept) (text_p
   pub table : IsTable kept.table
   pub counts : counts_of kept.table ≡ (sizes_in root).counts
 
--- so on some pages
+-- a root keeps a game's table on some pages
 pub record KeepsGameTrees (root : List ℕ) (capacity : ℕ) (kept : Kept) (bytes : ℕ → List ℕ) : Type 0 where
   pub text_pages : List ℕ
   pub pages : Tree → List ℕ

@@ -3,7 +3,7 @@ use Rattle.std.specs.Prelude.{◌≡◌, ℕ, List, Option, Some, None, slice_ge
 use Rattle.retrograde.specs.Stored.{Stored, HasRecord}
 use Rattle.std.specs.Option.{IfSome}
 use Rattle.tree_table.specs.declared.last.Seen.{Seen}
-use Rattle.tree_table.specs.Working.{Work, table_now, IsHonestWork}
+use Rattle.tree_table.specs.WorkTable.{Work, table_now, IsHonestWork}
 
 -- it has the position and the record of its number in this table
 pub record IsSeenIn (table : Stored (List ℕ)) (seen : Seen) : Type 0 where

@@ -3,7 +3,7 @@ pub use Rattle.game_file.specs.Stops
 pub use Rattle.page_chain.specs.Chain
 pub use Rattle.page_store.specs.Causes as PageStoreCauses
 pub use Rattle.page_store.specs.Marks
-pub use Rattle.page_store.specs.Spelling
+pub use Rattle.page_store.specs.Spelled as PageSpelled
 pub use Rattle.page_store.specs.Store
 pub use Rattle.retrograde.specs.Changes
 pub use Rattle.retrograde.specs.Edges
@@ -20,13 +20,15 @@ pub mod Trees
 pub mod Readers
 pub mod Entries
 pub mod Forest
+pub mod Frames
 pub mod Spelled
 pub mod Slot
 pub mod Held
-pub mod Keeping
+pub mod KeptTrees
 pub mod Last
-pub mod Working
+pub mod WorkTable
+pub mod Commits
 pub mod Causes
 pub mod InTrees
 pub mod Versions
-pub mod aid
+pub mod lemmas

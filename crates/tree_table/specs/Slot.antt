@@ -1,8 +1,9 @@
 -- What a root slot says of a table on trees. A slot of layout 3 also says how many pages there are, and may name a goal.
-use Rattle.std.specs.Prelude.{◌≡◌, ◌≤◌, List, ℕ, Option, None, Some}
+use Rattle.std.specs.Prelude.{◌≡◌, ◌+◌, ◌≤◌, ◌<◌, List, ℕ, Option, None, Some, slice_index}
 use Rattle.position_pack.specs.declared.kind.PackingKind.{PackingKind}
 use Rattle.rbg_game.specs.declared.limits.TheConstants.{MAX_POINTS}
-use Rattle.game_file.specs.Fields.{word_at, packing_in, number_of_packing, kind_in, first_in, sizes_in, goal_number_in, goal_numbered, AreZero}
+use Rattle.game_file.specs.Fields.{word_at, layout_in, commits_in, capacity_in, packing_in, number_of_packing, kind_in, first_in, sizes_in, goal_number_in, goal_numbered, AreZero, HasPlaceFor, SaysPages}
+use Rattle.game_file.specs.declared.sizes.Sizes.{Sizes}
 use Rattle.game_file.specs.Numbers.{AreWithinLimits}
 use Rattle.tree_table.specs.declared.slot.TreeSlot.{TreeSlot}
 use Rattle.tree_table.specs.declared.tree.Roots.{Roots}
@@ -44,3 +45,35 @@ SaysTrees root (Some slot) = IsGameTreeSlot root slot.packing (goal_numbered slo
 pub record IsNoTreeSlot (root : List ℕ) : Type 0 where
   pub not_empty : ¬ IsEmptyTreeSlot root
   pub no_game : (kind : PackingKind) (goal : Option ℕ) → ¬ IsGameTreeSlot root kind goal
+
+-- the slot of a table without a game, of this layout and this many pages, after no commit: all bytes without a field are zero
+pub record IsEmptySlotOf (number many : ℕ) (root : List ℕ) : Type 0 where
+  pub layout : layout_in root ≡ number
+  pub pages : SaysPages root many
+  pub empty : IsEmptyTreeSlot root
+  pub commits : commits_in root ≡ 0
+  pub fields : AreZero 4 68 root
+  pub behind : AreZero 72 512 root
+  pub unsaid : number < 3 → capacity_in root ≡ 0
+
+-- the slot of a table with this game, of this layout and this many pages, after this many commits
+pub record IsGameSlotOf (number many count : ℕ) (game : TreeSlot) (root : List ℕ) : Type 0 where
+  pub layout : layout_in root ≡ number
+  pub pages : SaysPages root many
+  pub packing : packing_in root ≡ number_of_packing game.packing
+  pub commits : commits_in root ≡ count
+  pub slot : HasPlaceFor number game.goal → slot_in root ≡ game
+  pub behind : AreZero 76 512 root
+  pub unsaid : number < 3 → capacity_in root ≡ 0
+
+-- a slot with these sizes but for the edges, and else as it was
+pub record HasSizes (sizes : Sizes) (old new : List ℕ) : Type 0 where
+  pub text : word_at new 20 ≡ sizes.text
+  pub packed : word_at new 24 ≡ sizes.packed
+  pub known : word_at new 28 ≡ sizes.counts.known
+  pub expanded : word_at new 32 ≡ sizes.counts.expanded
+  pub settled : word_at new 36 ≡ sizes.counts.settled
+  pub processed : word_at new 40 ≡ sizes.counts.processed
+  pub before : (k : ℕ) → k + 4 ≤ 20 → word_at new k ≡ word_at old k
+  pub ahead : (k : ℕ) → k < 20 → slice_index new k ≡ slice_index old k
+  pub behind : (k : ℕ) → 44 ≤ k → slice_index new k ≡ slice_index old k

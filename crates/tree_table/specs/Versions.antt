@@ -11,7 +11,7 @@ use Rattle.tree_table.specs.declared.slot.TreeSlot.{TreeSlot}
 use Rattle.tree_table.specs.declared.tree.Tree.{Tree}
 use Rattle.tree_table.specs.Entries.{AreEntriesOf}
 use Rattle.tree_table.specs.Forest.{IsForest}
-use Rattle.tree_table.specs.Keeping.{IsOneOf}
+use Rattle.tree_table.specs.KeptTrees.{IsOneOf}
 
 -- the pages that this slot names hold a table, which it counts right, and this hold needs each of them
 pub record StandsInVersion (place : HoldPlace) (slot : TreeSlot) (table : Stored (List ℕ)) (store : Store) : Type 0 where

@@ -1,31 +1,42 @@
 //! What a slot names is changed. The pages that it names stay as they are where the committed root needs them.
-ghost use Rattle.std.specs.Prelude.{◌≡◌, ◌≢◌, ◌+◌, ◌*◌, ◌≤◌, ◌<◌, ℕ, List, Some, length, slice_get};
-ghost use Rattle.std.specs.Prelude.{OnOk, IfOk, IfErr, IsTrue};
+ghost use Rattle.std.specs.Prelude.{◌≡◌, ◌+◌, ◌*◌, ◌≤◌, ◌<◌, ℕ, List, Some, length, slice_get, IfOk, IfErr, IfSome, IfNone, IsTrue};
+ghost use Rattle.btree.specs.Answers.{TellsNew};
+ghost use Rattle.btree.specs.Page.{Item};
+ghost use Rattle.page_store.specs.Frames.{PagesRead, PagesRefused};
 ghost use Rattle.page_store.specs.Marks.{free_count};
-ghost use Rattle.page_store.specs.Store.{StoreWorks};
 ghost use Rattle.retrograde.specs.Changes.{fresh_record, with_position, with_record, with_edge, with_settled};
-ghost use Rattle.retrograde.specs.Stored.{Stored, HasRecord};
 ghost use Rattle.table.specs.declared.fault.TableFault.TheVariants.{Disk, TableFull};
 ghost use Rattle.table.specs.declared.limits.TheConstants.{PAGES_PER_ENTRY};
-ghost use Rattle.btree.specs.Page.{Item};
-ghost use Rattle.tree_table.specs.declared.tree.Tree.{Tree};
 ghost use Rattle.tree_table.specs.Causes.{HasNoForest, HasNoTable, ChangeCause};
+ghost use Rattle.tree_table.specs.Frames.{HasCell, IsChanged, IsPutIn};
+ghost use Rattle.tree_table.specs.declared.tree.Tree.{Tree};
 ghost use Rattle.tree_table.specs.Trees.{key_width, value_width, root_of, with_root};
-ghost use Rattle.tree_table.specs.Working.{HoldsForest, HoldsTable, with_entry};
-ghost use Rattle.tree_table.specs.aid.Slots.{IsSameButRoots, IsSameFrame, counts_with, recounted};
+ghost use Rattle.tree_table.specs.WorkTable.{HoldsForest};
+ghost use Rattle.tree_table.specs.lemmas.Slots.{counts_with, recounted};
 ghost use Rattle.position_pack.specs.declared.limits.TheConstants.{MAX_PACKED};
 
 use crate::bytes::{Cell, cell_bytes, key_behind, number_key};
 use crate::fault::table_fault;
-use crate::read::value_into;
 use crate::slot::TreeSlot;
 use crate::tree::{Tree, widths_of};
-use btree::find::Bytes;
-use btree::put::put;
+use btree::put::{put, put_new};
 use page_store::Pages;
 use position_pack::Packed;
 use retrograde::{Counts, Record, State};
 use table::TableFault;
+
+/// The slot with this root of this tree.
+fn slot_with(slot: TreeSlot, tree: Tree, root: u32) -> TreeSlot
+    ensures { result ≡ record slot { roots = with_root slot.roots tree root } }
+{
+    TreeSlot {
+        packing: slot.packing,
+        goal: slot.goal,
+        first: slot.first,
+        sizes: slot.sizes,
+        roots: slot.roots.with(tree, root),
+    }
+}
 
 /// Puts this value at this key of this tree. Answers the slot with the tree's new root. The first entry of a tree takes one page.
 fn put_in<P: Pages>(
@@ -39,29 +50,40 @@ fn put_in<P: Pages>(
     requires short { slot.sizes.packed ≤ MAX_PACKED }
     requires key { length key.now ≡ key_width slot.sizes.packed tree }
     requires value { length value.now ≡ value_width slot.sizes.packed tree }
-    ensures slot { IfOk result (IsSameButRoots slot) }
-    ensures map { IsTrue (P.store store.old).disk.honest → (text : List ℕ) (entries : Tree → List Item)
-        → HoldsForest slot text entries (P.store store.old)
-        → IfOk result (λ next. HoldsForest next text (with_entry entries tree key.now value.now) (P.store store.new)) }
-    ensures works { StoreWorks (P.store store.old) (P.store store.new) }
-    ensures open { OnOk result ((P.store store.new).closed ≡ (P.store store.old).closed) }
-    ensures still { IfErr result (λ fault. fault ≢ Disk → (P.store store.new).closed ≡ (P.store store.old).closed) }
-    ensures cause { IfErr result (ChangeCause HasNoForest slot (P.store store.old) (P.store store.new)) }
-    ensures roots { IfOk result (λ next. next.roots ≡ with_root slot.roots tree (root_of next.roots tree)) }
-    ensures first { root_of slot.roots tree ≡ 0
-        → OnOk result (free_count (P.store store.new).marks + 1 ≡ free_count (P.store store.old).marks) }
+    ensures ok { IfOk result (IsPutIn slot tree key.now value.now (P.store store.old) (P.store store.new)) }
+    ensures err { IfErr result (PagesRefused Disk (ChangeCause HasNoForest slot) PAGES_PER_ENTRY (P.store store.old) (P.store store.new)) }
     ensures full { root_of slot.roots tree ≡ 0 → IfErr result (λ fault. fault ≡ TableFull → free_count (P.store store.old).marks ≡ 0) }
-    ensures takes { free_count (P.store store.old).marks ≤ free_count (P.store store.new).marks + PAGES_PER_ENTRY }
 {
     let widths = widths_of(slot.sizes.packed, tree);
     match put(store, widths, slot.roots.root(tree), key, value) {
-        Ok(root) => Ok(TreeSlot {
-            packing: slot.packing,
-            goal: slot.goal,
-            first: slot.first,
-            sizes: slot.sizes,
-            roots: slot.roots.with(tree, root),
-        }),
+        Ok(root) => Ok(slot_with(slot, tree, root)),
+        Err(fault) => Err(table_fault(fault)),
+    }
+}
+
+/// Puts this value at this key of this tree, if the tree does not have the key. Answers the slot with the tree's new root, and none where
+/// it has the key, which leaves all as it was.
+fn put_new_in<P: Pages>(
+    store: &mut P,
+    slot: TreeSlot,
+    tree: Tree,
+    key: &[u8],
+    value: &[u8],
+) -> Result<Option<TreeSlot>, TableFault>
+    requires some { 1 ≤ slot.sizes.packed }
+    requires short { slot.sizes.packed ≤ MAX_PACKED }
+    requires key { length key.now ≡ key_width slot.sizes.packed tree }
+    requires value { length value.now ≡ value_width slot.sizes.packed tree }
+    ensures told { IsTrue (P.store store.old).disk.honest → (text : List ℕ) (entries : Tree → List Item)
+        → HoldsForest slot text entries (P.store store.old) → IfOk result (TellsNew (entries tree) key.now) }
+    ensures ok { IfOk result (λ next. IfSome next (IsPutIn slot tree key.now value.now (P.store store.old) (P.store store.new))) }
+    ensures left { IfOk result (λ next. IfNone next (PagesRead (P.store store.old) (P.store store.new))) }
+    ensures err { IfErr result (PagesRefused Disk (ChangeCause HasNoForest slot) PAGES_PER_ENTRY (P.store store.old) (P.store store.new)) }
+{
+    let widths = widths_of(slot.sizes.packed, tree);
+    match put_new(store, widths, slot.roots.root(tree), key, value) {
+        Ok(None) => Ok(None),
+        Ok(Some(root)) => Ok(Some(slot_with(slot, tree, root))),
         Err(fault) => Err(table_fault(fault)),
     }
 }
@@ -89,19 +111,12 @@ pub fn add_position<P: Pages>(
     requires short { slot.sizes.packed ≤ MAX_PACKED }
     requires room { slot.sizes.counts.known < 16777216 }
     requires long { length packed.now.items ≡ slot.sizes.packed }
-    ensures slot { IfOk result (IsSameFrame slot) }
-    ensures known { IfOk result (λ next. next.sizes.counts.known ≡ slot.sizes.counts.known + 1) }
-    ensures table { IsTrue (P.store store.old).disk.honest → (text : List ℕ) (table : Stored (List ℕ))
-        → HoldsTable slot text table (P.store store.old)
-        → ((i : ℕ) → slice_get table.positions i ≡ Some packed.now.items → ⊥)
-        → IfOk result (λ next. HoldsTable next text (with_position table packed.now.items) (P.store store.new)) }
-    ensures works { StoreWorks (P.store store.old) (P.store store.new) }
-    ensures open { OnOk result ((P.store store.new).closed ≡ (P.store store.old).closed) }
-    ensures still { IfErr result (λ fault. fault ≢ Disk → (P.store store.new).closed ≡ (P.store store.old).closed) }
-    ensures cause { IfErr result (ChangeCause HasNoTable slot (P.store store.old) (P.store store.new)) }
+    ensures ok { IfOk result (IsChanged (PAGES_PER_ENTRY * 2) (slot.sizes.counts.known + 1)
+        (λ table. (i : ℕ) → slice_get table.positions i ≡ Some packed.now.items → ⊥) (λ table. with_position table packed.now.items) slot
+        (P.store store.old) (P.store store.new)) }
+    ensures err { IfErr result (PagesRefused Disk (ChangeCause HasNoTable slot) (PAGES_PER_ENTRY * 2) (P.store store.old) (P.store store.new)) }
     ensures full { slot.roots.positions ≡ 0 → slot.roots.records ≡ 0
         → IfErr result (λ fault. fault ≡ TableFull → free_count (P.store store.old).marks < 2) }
-    ensures takes { free_count (P.store store.old).marks ≤ free_count (P.store store.new).marks + PAGES_PER_ENTRY * 2 }
 {
     let number = slot.sizes.counts.known;
     let key = number_key(number);
@@ -148,18 +163,9 @@ pub fn set_record<P: Pages>(
     requires few { slot.sizes.counts.known ≤ 16777216 }
     requires known { number < slot.sizes.counts.known }
     requires long { length was.now.position.items ≡ slot.sizes.packed }
-    ensures slot { IfOk result (IsSameFrame slot) }
-    ensures known { IfOk result (λ next. next.sizes.counts.known ≡ slot.sizes.counts.known) }
-    ensures table { IsTrue (P.store store.old).disk.honest → (text : List ℕ) (table : Stored (List ℕ))
-        → HoldsTable slot text table (P.store store.old)
-        → slice_get table.positions number ≡ Some was.now.position.items
-        → HasRecord table number was.now.kept
-        → IfOk result (λ next. HoldsTable next text (with_record table number kept) (P.store store.new)) }
-    ensures works { StoreWorks (P.store store.old) (P.store store.new) }
-    ensures open { OnOk result ((P.store store.new).closed ≡ (P.store store.old).closed) }
-    ensures still { IfErr result (λ fault. fault ≢ Disk → (P.store store.new).closed ≡ (P.store store.old).closed) }
-    ensures cause { IfErr result (ChangeCause HasNoTable slot (P.store store.old) (P.store store.new)) }
-    ensures takes { free_count (P.store store.old).marks ≤ free_count (P.store store.new).marks + PAGES_PER_ENTRY }
+    ensures ok { IfOk result (IsChanged PAGES_PER_ENTRY slot.sizes.counts.known (HasCell number was.now) (λ table. with_record table number kept) slot
+        (P.store store.old) (P.store store.new)) }
+    ensures err { IfErr result (PagesRefused Disk (ChangeCause HasNoTable slot) PAGES_PER_ENTRY (P.store store.old) (P.store store.new)) }
 {
     let key = number_key(number);
     let cell = cell_bytes(&was.position, &kept);
@@ -180,26 +186,20 @@ pub fn add_edge<P: Pages>(
     requires few { slot.sizes.counts.known ≤ 16777216 }
     requires successor { successor < slot.sizes.counts.known }
     requires predecessor { predecessor < slot.sizes.counts.known }
-    ensures slot { IfOk result (IsSameFrame slot) }
+    ensures ok { IfOk result (IsChanged PAGES_PER_ENTRY slot.sizes.counts.known (λ table. Unit {0}) (λ table. with_edge table successor predecessor) slot
+        (P.store store.old) (P.store store.new)) }
     ensures counts { IfOk result (λ next. next.sizes.counts ≡ slot.sizes.counts) }
-    ensures table { IsTrue (P.store store.old).disk.honest → (text : List ℕ) (table : Stored (List ℕ))
-        → HoldsTable slot text table (P.store store.old)
-        → IfOk result (λ next. HoldsTable next text (with_edge table successor predecessor) (P.store store.new)) }
-    ensures works { StoreWorks (P.store store.old) (P.store store.new) }
-    ensures open { OnOk result ((P.store store.new).closed ≡ (P.store store.old).closed) }
-    ensures still { IfErr result (λ fault. fault ≢ Disk → (P.store store.new).closed ≡ (P.store store.old).closed) }
-    ensures cause { IfErr result (ChangeCause HasNoTable slot (P.store store.old) (P.store store.new)) }
-    ensures takes { free_count (P.store store.old).marks ≤ free_count (P.store store.new).marks + PAGES_PER_ENTRY }
+    ensures err { IfErr result (PagesRefused Disk (ChangeCause HasNoTable slot) PAGES_PER_ENTRY (P.store store.old) (P.store store.new)) }
 {
     let key = key_behind(successor, Some(predecessor));
-    let mut none = Bytes::new();
-    let there = value_into(store, &slot, Tree::Edges, &key, &mut none)?;
-    if there {
-        return Ok(slot);
+    let put = put_new_in(store, slot, Tree::Edges, &key, &[])?;
+    match put {
+        None => Ok(slot),
+        Some(mut next) => {
+            next.sizes.edges = next.sizes.edges.saturating_add(1);
+            Ok(next)
+        }
     }
-    let mut slot = put_in(store, slot, Tree::Edges, &key, &[])?;
-    slot.sizes.edges = slot.sizes.edges.saturating_add(1);
-    Ok(slot)
 }
 
 /// Puts a number after the settled order.
@@ -212,16 +212,9 @@ pub fn push_settled<P: Pages>(
     requires short { slot.sizes.packed ≤ MAX_PACKED }
     requires few { slot.sizes.counts.known ≤ 16777216 }
     requires settled { slot.sizes.counts.settled < slot.sizes.counts.known }
-    ensures slot { IfOk result (IsSameFrame slot) }
-    ensures known { IfOk result (λ next. next.sizes.counts.known ≡ slot.sizes.counts.known) }
-    ensures table { IsTrue (P.store store.old).disk.honest → (text : List ℕ) (table : Stored (List ℕ))
-        → HoldsTable slot text table (P.store store.old)
-        → IfOk result (λ next. HoldsTable next text (with_settled table number) (P.store store.new)) }
-    ensures works { StoreWorks (P.store store.old) (P.store store.new) }
-    ensures open { OnOk result ((P.store store.new).closed ≡ (P.store store.old).closed) }
-    ensures still { IfErr result (λ fault. fault ≢ Disk → (P.store store.new).closed ≡ (P.store store.old).closed) }
-    ensures cause { IfErr result (ChangeCause HasNoTable slot (P.store store.old) (P.store store.new)) }
-    ensures takes { free_count (P.store store.old).marks ≤ free_count (P.store store.new).marks + PAGES_PER_ENTRY }
+    ensures ok { IfOk result (IsChanged PAGES_PER_ENTRY slot.sizes.counts.known (λ table. Unit {0}) (λ table. with_settled table number) slot
+        (P.store store.old) (P.store store.new)) }
+    ensures err { IfErr result (PagesRefused Disk (ChangeCause HasNoTable slot) PAGES_PER_ENTRY (P.store store.old) (P.store store.new)) }
 {
     let place = slot.sizes.counts.settled;
     let key = number_key(place);

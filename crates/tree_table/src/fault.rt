@@ -1,6 +1,6 @@
 //! What a fault of the store is here.
 ghost use Rattle.std.specs.Prelude.{◌≡◌};
-ghost use Rattle.tree_table.specs.aid.Faults.{fault_of};
+ghost use Rattle.tree_table.specs.lemmas.Faults.{fault_of};
 
 use page_store::PageFault;
 use table::TableFault;

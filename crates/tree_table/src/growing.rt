@@ -1,10 +1,9 @@
 //! The store of a table at work gets more pages.
-ghost use Rattle.std.specs.Prelude.{◌≡◌, ◌≢◌, ◌≤◌, ◌<◌, length, OnOk, OnErr, IfErr};
+ghost use Rattle.std.specs.Prelude.{◌≤◌, ◌<◌, length, OnOk, IfErr};
 ghost use Rattle.page_store.specs.declared.limits.TheConstants.{MAX_PAGES};
-ghost use Rattle.page_store.specs.Causes.{GrowCause};
-ghost use Rattle.page_store.specs.Spelling.{IsCalm};
+ghost use Rattle.page_store.specs.Spelled.{IsCalm};
 ghost use Rattle.page_store.specs.Store.{StoreGrows, IsStoreGrown};
-ghost use Rattle.tree_table.specs.Keeping.{IsStill};
+ghost use Rattle.tree_table.specs.Commits.{OnlyPages, HasNotGrown};
 
 use crate::working::TreeTable;
 use page_store::{PageFault, Pages};
@@ -19,15 +18,11 @@ impl<P: Pages> TreeTable<P> {
         requires some { 1 ≤ length (work_in self.old).store.marks }
         requires more { length (work_in self.old).store.marks < pages }
         requires few { pages ≤ MAX_PAGES }
-        ensures slot { (work_in self.new).slot ≡ (work_in self.old).slot }
-        ensures text { (work_in self.new).text ≡ (work_in self.old).text }
-        ensures torn { (work_in self.new).torn ≡ (work_in self.old).torn }
+        ensures same { OnlyPages (work_in self.old) (work_in self.new) }
         ensures grows { StoreGrows root.now pages (work_in self.old).store (work_in self.new).store }
         ensures ok { OnOk result (IsStoreGrown root.now pages (work_in self.old).store (work_in self.new).store) }
         ensures calm { IsCalm (work_in self.new).store }
-        ensures left { OnErr result (IsStill (work_in self.old).store (work_in self.new).store) }
-        ensures untouched { IfErr result (λ fault. fault ≢ PageFault.Disk → (work_in self.new).store ≡ (work_in self.old).store) }
-        ensures cause { IfErr result (GrowCause (work_in self.old).store (work_in self.new).store) }
+        ensures err { IfErr result (HasNotGrown (work_in self.old).store (work_in self.new).store) }
     {
         self.seen = None;
         self.in_row = false;

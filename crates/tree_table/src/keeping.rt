@@ -1,37 +1,32 @@
 //! A table at work is committed, given up, or begun anew.
-ghost use Rattle.std.specs.Prelude.{◌≡◌, ◌≢◌, ◌≤◌, ℕ, [], length, false, Option, None, Some, OnOk, OnErr, IfErr, IsTrue};
-ghost use Rattle.sector_disk.specs.Disk.{GoesOn, size};
+ghost use Rattle.std.specs.Prelude.{◌≡◌, ◌≤◌, ℕ, length, Option, None, Some, false, OnOk, IfErr, IsTrue};
 ghost use Rattle.page_store.specs.declared.marks.Mark.TheVariants.{Waiting};
-ghost use Rattle.page_store.specs.Causes.{StoreCommitCause};
-ghost use Rattle.page_store.specs.Marks.{mark as mark_of, AreDiscarded};
-ghost use Rattle.page_store.specs.Spelling.{IsCalm};
-ghost use Rattle.page_store.specs.Store.{Store, StoreCloses, IsRemarked};
+ghost use Rattle.page_store.specs.Marks.{mark as mark_of};
+ghost use Rattle.page_store.specs.Spelled.{IsCalm};
+ghost use Rattle.page_store.specs.Store.{Store};
 ghost use Rattle.retrograde.specs.Stored.{loaded};
-ghost use Rattle.table.specs.declared.fault.TableFault.TheVariants.{Disk};
 ghost use Rattle.game_file.specs.Kept.{Kept, kept_as};
-ghost use Rattle.game_file.specs.Stops.{LeavesEither, LeavesTable};
-ghost use Rattle.game_file.specs.Fields.{commits_in, layout_in, goal_numbered, number_of_goal, HasPlaceFor, SaysPages};
+ghost use Rattle.game_file.specs.Stops.{LeavesEither};
+ghost use Rattle.game_file.specs.Fields.{layout_in, number_of_goal, HasPlaceFor};
+ghost use Rattle.tree_table.specs.Commits.{OnlyPages, StoreAdvances, IsSaved, IsNotSaved, IsStarted, IsNotStarted, IsRestored};
 ghost use Rattle.tree_table.specs.Held.{StoresTrees};
-ghost use Rattle.tree_table.specs.Keeping.{IsKeptInTrees, IsStill, IsVacant, IsWorkedOn, StandsInTrees, StandsFor, AreSized};
-ghost use Rattle.tree_table.specs.Causes.{StartCause};
-ghost use Rattle.tree_table.specs.Slot.{slot_in};
-ghost use Rattle.tree_table.specs.Keeping.{slot_or_bare as slot_of};
-ghost use Rattle.tree_table.specs.Working.{bare_slot as bare, work_of};
-ghost use Rattle.tree_table.specs.Versions.{KeepsHolds};
+ghost use Rattle.tree_table.specs.KeptTrees.{IsVacant, IsWorkedOn, StandsFor, AreSized, slot_or_bare as slot_of};
+ghost use Rattle.tree_table.specs.WorkTable.{bare_slot as bare, work_of};
 ghost use Rattle.rbg_game.specs.Goals.{points_of};
 ghost use Rattle.rbg_game.specs.declared.limits.TheConstants.{MAX_TEXT_BYTES};
 
-use crate::begin::load;
-use crate::saving::commit;
-use crate::slot::TreeSlot;
+use crate::begin::first_table;
+use crate::fault::table_fault;
+use crate::slot::{TreeSlot, game_slot};
 use crate::tree::Roots;
 use crate::working::TreeTable;
-use game_file::Sizes;
+use game_file::{Sizes, word_at};
 use page_store::{PageFault, Pages};
 use position_pack::{Packed, PackingKind};
 use rbg_game::goal::Goal;
 use retrograde::Counts;
 use std::alloc::Global;
+use std::mem;
 use table::TableFault;
 
 /// The slot that names no page, for positions of this many bytes.
@@ -104,14 +99,7 @@ impl<P: Pages> TreeTable<P> {
         requires sealed { (p : ℕ) → mark_of (work_in self.old).store.marks p ≡ Waiting → ⊥ }
         requires stands { IsTrue (work_in self.old).store.disk.honest
             → ∥ StandsFor game.now (work_in self.old).text (work_in self.old).store ∥₁ }
-        ensures slot { (work_in self.new).slot ≡ slot_of game.now }
-        ensures text { (work_in self.new).text ≡ (work_in self.old).text }
-        ensures torn { (work_in self.new).torn ≡ false }
-        ensures still { IsStill (work_in self.old).store (work_in self.new).store }
-        ensures held { KeepsHolds (work_in self.old).store (work_in self.new).store }
-        ensures calm { IsCalm (work_in self.new).store }
-        ensures marks { AreDiscarded (work_in self.old).store.marks (work_in self.new).store.marks }
-        ensures others { IsRemarked (work_in self.old).store (work_in self.new).store }
+        ensures { IsRestored game.now (work_in self.old) (work_in self.new) }
     {
         self.torn = true;
         self.seen = None;
@@ -122,55 +110,33 @@ impl<P: Pages> TreeTable<P> {
         self.torn = false;
     }
 
-    /// Commits the table that a command has come to, as `commit` does. The new root has the layout of the old one, and tells this count of
-    /// commits.
+    /// Commits the table that a command has come to in the place of the one that the committed root names. The new root has the layout of the
+    /// old one, and tells this count of commits. A stop of the power since the work began leaves the old table or the new one; after `Ok` the
+    /// new is kept, and after a refusal that leaves the store open the old.
     pub fn save(&mut self, commits: u64) -> Result<(), PageFault>
-        ensures slot { (work_in self.new).slot ≡ (work_in self.old).slot }
-        ensures text { (work_in self.new).text ≡ (work_in self.old).text }
-        ensures torn { (work_in self.new).torn ≡ (work_in self.old).torn }
-        ensures commits { OnOk result (commits_in (work_in self.new).store.root ≡ commits) }
-        ensures layout { OnOk result (layout_in (work_in self.new).store.root ≡ layout_in (work_in self.old).store.root) }
-        ensures pages { OnOk result (SaysPages (work_in self.new).store.root (length (work_in self.new).store.marks)) }
-        ensures root { HasPlaceFor (layout_in (work_in self.old).store.root) (work_in self.old).slot.goal
-            → OnOk result (slot_in (work_in self.new).store.root ≡ (work_in self.old).slot) }
+        ensures same { OnlyPages (work_in self.old) (work_in self.new) }
+        ensures ok { OnOk result (IsSaved commits (work_in self.old) (work_in self.new)) }
+        ensures err { IfErr result (IsNotSaved (work_in self.old) (work_in self.new)) }
         ensures stop { (begun : Store) (was : Option Kept) (is : Kept)
             → IsWorkedOn (work_in self.old).slot begun (work_in self.old).store was is
             → LeavesEither (StoresTrees (layout_in begun.root) (length begun.marks)) begun.disk (work_in self.new).store.disk was (Some is) }
-        ensures done { (begun : Store) (was : Option Kept) (is : Kept)
-            → IsWorkedOn (work_in self.old).slot begun (work_in self.old).store was is
-            → OnOk result (IsKeptInTrees (work_in self.new).store (Some is)) }
-        ensures kept_stop { (begun : Store) (was : Option Kept) (is : Kept)
-            → IsWorkedOn (work_in self.old).slot begun (work_in self.old).store was is
-            → OnErr result ((work_in self.new).store.closed ≡ false
-            → LeavesTable (StoresTrees (layout_in begun.root) (length begun.marks)) begun.disk (work_in self.new).store.disk was) }
-        ensures stands { (work_in self.old).torn ≡ false → IsTrue (work_in self.old).store.disk.honest
-            → OnOk result (∥ StandsInTrees (work_in self.old).slot (work_in self.old).text (work_in self.new).store ∥₁) }
-        ensures calm { ((p : ℕ) → mark_of (work_in self.old).store.marks p ≡ Waiting → ⊥) → OnOk result (IsCalm (work_in self.new).store) }
-        ensures left { OnErr result (IsStill (work_in self.old).store (work_in self.new).store) }
-        ensures held { KeepsHolds (work_in self.old).store (work_in self.new).store }
-        ensures time { GoesOn (work_in self.old).store.disk (work_in self.new).store.disk }
-        ensures same_size { size (work_in self.new).store.disk ≡ size (work_in self.old).store.disk }
-        ensures failures { (work_in self.old).store.failures ≤ (work_in self.new).store.failures }
-        ensures same_pages { length (work_in self.new).store.marks ≡ length (work_in self.old).store.marks }
-        ensures open { OnOk result ((work_in self.new).store.closed ≡ false) }
-        ensures still { IfErr result (λ fault. fault ≢ PageFault.Disk
-            → (work_in self.new).store.closed ≡ (work_in self.old).store.closed) }
-        ensures shut { (work_in self.new).store.closed ≡ false → (work_in self.old).store.closed ≡ false }
-        ensures closes { StoreCloses (work_in self.old).store (work_in self.new).store }
-        ensures cause { IfErr result (StoreCommitCause (work_in self.old).store (work_in self.new).store) }
+        ensures advances { StoreAdvances (work_in self.old).store (work_in self.new).store }
     {
         self.seen = None;
         self.in_row = false;
         self.near = None;
         let torn = self.torn;
         self.torn = true;
-        let result = commit(&mut self.store, commits, &self.slot);
+        let layout = word_at(&self.store.root().bytes, 0);
+        let root = game_slot(layout, self.store.capacity(), commits, &self.slot);
+        let result = self.store.commit(&root);
         self.torn = torn;
         result
     }
 
-    /// Puts a game with this text, packing, goal and start in the place of none, and commits, as `load` does. After a refusal the table has
-    /// stopped half way, and goes back by `restore`.
+    /// Puts a game with this text, packing, goal and start in the place of none, and commits: the new root has the layout of the old one, and
+    /// tells this count of commits. A stop of the power leaves no game or this one. After a refusal the table has stopped half way, and goes
+    /// back by `restore`.
     pub fn start(
         &mut self,
         alloc: Global,
@@ -183,48 +149,29 @@ impl<P: Pages> TreeTable<P> {
         requires some { 1 ≤ length start.now.items }
         requires text { length text.items ≤ MAX_TEXT_BYTES }
         requires place { HasPlaceFor (layout_in (work_in self.old).store.root) (number_of_goal (points_of goal)) }
-        ensures text { OnOk result ((work_in self.new).text ≡ text.items) }
-        ensures packing { OnOk result ((work_in self.new).slot.packing ≡ packing) }
-        ensures goal { OnOk result (goal_numbered (work_in self.new).slot.goal ≡ points_of goal) }
-        ensures layout { OnOk result (layout_in (work_in self.new).store.root ≡ layout_in (work_in self.old).store.root) }
-        ensures pages { OnOk result (SaysPages (work_in self.new).store.root (length (work_in self.new).store.marks)) }
-        ensures kept_text { OnErr result ((work_in self.new).text ≡ (work_in self.old).text) }
-        ensures torn { OnOk result ((work_in self.new).torn ≡ false) }
-        ensures commits { OnOk result (commits_in (work_in self.new).store.root ≡ commits) }
-        ensures root { OnOk result (slot_in (work_in self.new).store.root ≡ (work_in self.new).slot) }
+        ensures ok { OnOk result (IsStarted commits text.items packing (points_of goal) start.now.items (work_in self.old) (work_in self.new)) }
+        ensures err { IfErr result (IsNotStarted (length text.items) (work_in self.old) (work_in self.new)) }
         ensures stop { IsVacant (work_in self.old).store
             → LeavesEither (StoresTrees (layout_in (work_in self.old).store.root) (length (work_in self.old).store.marks))
             (work_in self.old).store.disk (work_in self.new).store.disk None
             (Some (kept_as text.items packing (points_of goal) (loaded start.now.items))) }
-        ensures done { IsVacant (work_in self.old).store
-            → OnOk result (IsKeptInTrees (work_in self.new).store (Some (kept_as text.items packing (points_of goal) (loaded start.now.items)))) }
-        ensures kept_stop { IsVacant (work_in self.old).store → OnErr result ((work_in self.new).store.closed ≡ false
-            → LeavesTable (StoresTrees (layout_in (work_in self.old).store.root) (length (work_in self.old).store.marks))
-            (work_in self.old).store.disk (work_in self.new).store.disk None) }
-        ensures stands { IsTrue (work_in self.old).store.disk.honest
-            → OnOk result (StandsInTrees (work_in self.new).slot text.items (work_in self.new).store) }
-        ensures calm { ((p : ℕ) → mark_of (work_in self.old).store.marks p ≡ Waiting → ⊥) → OnOk result (IsCalm (work_in self.new).store) }
-        ensures left { OnErr result (IsStill (work_in self.old).store (work_in self.new).store) }
-        ensures held { KeepsHolds (work_in self.old).store (work_in self.new).store }
-        ensures time { GoesOn (work_in self.old).store.disk (work_in self.new).store.disk }
-        ensures same_size { size (work_in self.new).store.disk ≡ size (work_in self.old).store.disk }
-        ensures failures { (work_in self.old).store.failures ≤ (work_in self.new).store.failures }
-        ensures same_pages { length (work_in self.new).store.marks ≡ length (work_in self.old).store.marks }
-        ensures open { OnOk result ((work_in self.new).store.closed ≡ false) }
-        ensures still { IfErr result (λ fault. fault ≢ Disk
-            → (work_in self.new).store.closed ≡ (work_in self.old).store.closed) }
-        ensures shut { (work_in self.new).store.closed ≡ false → (work_in self.old).store.closed ≡ false }
-        ensures closes { StoreCloses (work_in self.old).store (work_in self.new).store }
-        ensures cause { IfErr result (StartCause (length text.items) (work_in self.old).store (work_in self.new).store) }
+        ensures advances { StoreAdvances (work_in self.old).store (work_in self.new).store }
     {
         self.torn = true;
         self.in_row = false;
         self.near = None;
-        let slot = load(alloc, &mut self.store, commits, &text, packing, goal, start)?;
+        let slot = first_table(alloc, &mut self.store, &text, packing, goal, start)?;
+        let before = mem::replace(&mut self.text, text);
         self.seen = None;
         self.slot = slot;
-        self.text = text;
         self.torn = false;
-        Ok(())
+        match self.save(commits) {
+            Ok(()) => Ok(()),
+            Err(fault) => {
+                self.torn = true;
+                self.text = before;
+                Err(table_fault(fault))
+            }
+        }
     }
 }

@@ -1,18 +1,17 @@
 //! The cell that was looked at or written last stays in memory: a unit of work asks for the same one several times.
-ghost use Rattle.std.specs.Prelude.{◌≡◌, ◌+◌, ◌≤◌, ◌<◌, ℕ, List, None, length};
-ghost use Rattle.std.specs.Prelude.{OnOk, OnErr, IfErr, IfSome, IsTrue};
+ghost use Rattle.std.specs.Prelude.{◌≡◌, ◌+◌, ◌≤◌, ◌<◌, None, OnOk, OnErr, IfErr, IsTrue};
 ghost use Rattle.page_store.specs.Marks.{free_count};
-ghost use Rattle.page_store.specs.Store.{StoreWorks, IsUnchanged};
+ghost use Rattle.page_store.specs.Frames.{PagesRead};
 ghost use Rattle.position_pack.specs.declared.limits.TheConstants.{MAX_PACKED};
 ghost use Rattle.retrograde.specs.Changes.{with_record};
-ghost use Rattle.retrograde.specs.Stored.{Stored};
 ghost use Rattle.table.specs.Faults.{NeedsNoPage};
 ghost use Rattle.table.specs.Frames.{IsWritten};
 ghost use Rattle.table.specs.declared.limits.TheConstants.{PAGES_PER_ENTRY};
 ghost use Rattle.tree_table.specs.Causes.{IsNoTable, ReadCause};
-ghost use Rattle.tree_table.specs.Last.{HasSeen, IsSeenIn};
+ghost use Rattle.tree_table.specs.Frames.{IsCellSeen};
+ghost use Rattle.tree_table.specs.Last.{HasSeen};
 ghost use Rattle.tree_table.specs.Readers.{IsNear};
-ghost use Rattle.tree_table.specs.Working.{HasTable, table_now, IsHonestWork, WorkStays, WorkGoesOn, WorkFails};
+ghost use Rattle.tree_table.specs.WorkTable.{table_now, IsHonestWork, WorkStays, WorkGoesOn, WorkFails};
 
 use crate::bytes::{Cell, no_cell};
 use crate::change::set_record;
@@ -54,13 +53,9 @@ fn see_near<P: Pages>(
     requires known { number < slot.now.sizes.counts.known }
     requires near { IsNear slot.now (P.store store.old) near.old }
     ensures near { IsNear slot.now (P.store store.new) near.new }
-    ensures number { OnOk result (HasSeen seen.new number) }
-    ensures cell { IsTrue (P.store store.old).disk.honest → (text : List ℕ) (table : Stored (List ℕ))
-        → HasTable slot.now text table (P.store store.old) → OnOk result (IfSome seen.new (IsSeenIn table)) }
-    ensures long { OnOk result (IfSome seen.new (λ s. length s.cell.position.items ≡ slot.now.sizes.packed)) }
+    ensures seen { OnOk result (IsCellSeen slot.now (P.store store.old) number seen.new) }
     ensures same { OnErr result (seen.new ≡ seen.old) }
-    ensures unchanged { IsUnchanged (P.store store.old) (P.store store.new) }
-    ensures works { StoreWorks (P.store store.old) (P.store store.new) }
+    ensures read { PagesRead (P.store store.old) (P.store store.new) }
     ensures cause { IfErr result (ReadCause IsNoTable slot.now (P.store store.old) (P.store store.new)) }
 {
     if let Some(last) = seen {

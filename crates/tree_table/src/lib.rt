@@ -11,18 +11,15 @@ mod keeping;
 mod last;
 pub mod laws;
 mod read;
-mod saving;
 mod slot;
 mod tree;
 mod version;
 mod working;
 
-pub use begin::load;
 pub use bytes::{Cell, cell_parts, number_in, number_key};
 pub use keeping::bare_slot;
 pub use last::Seen;
 pub use read::{find_key, reader_of, value_at};
-pub use saving::commit;
 pub use slot::{FIRST_WITH_GOALS, Slot, TreeSlot, empty_slot, game_slot, read_slot};
 pub use tree::{Roots, Tree, widths_of};
 pub use working::TreeTable;

@@ -1,8 +1,9 @@
 //! What a slot names is read.
-ghost use Rattle.std.specs.Prelude.{◌≡◌, ◌↔◌, ◌≤◌, ◌<◌, ℕ, List, Some, OnOk, OnErr, IfOk, IfErr, IfSome, IfNone, IsTrue, length, slice_get};
-ghost use Rattle.page_store.specs.Store.{Store, StoreWorks, IsUnchanged};
+ghost use Rattle.std.specs.Prelude.{◌≡◌, ◌↔◌, ◌≤◌, ◌<◌, ℕ, List, Some, OnOk, OnErr, IfOk, IfErr, IfSome, IfNone, IsTrue, slice_get};
+ghost use Rattle.page_store.specs.Frames.{PagesRead};
+ghost use Rattle.page_store.specs.Store.{Store};
 ghost use Rattle.retrograde.specs.Edges.{IsAfter, IsNextEdge, HasNoMoreEdges};
-ghost use Rattle.retrograde.specs.Stored.{Stored, HasRecord};
+ghost use Rattle.retrograde.specs.Stored.{Stored};
 ghost use Rattle.btree.specs.Page.{Item};
 ghost use Rattle.btree.specs.Entries.{find_entry, next_after as next_in};
 ghost use Rattle.btree.specs.Answers.{filled_bytes, filled_entry, found_bytes};
@@ -11,8 +12,9 @@ ghost use Rattle.tree_table.specs.declared.slot.TreeSlot.{TreeSlot};
 ghost use Rattle.tree_table.specs.declared.tree.Tree.{Tree};
 ghost use Rattle.tree_table.specs.declared.tree.Tree.TheVariants.{Records};
 ghost use Rattle.tree_table.specs.Causes.{IsNoForest, IsNoTable, ReadCause};
+ghost use Rattle.tree_table.specs.Frames.{IsCellRead, IsKnownAfter, KeepsReading};
 ghost use Rattle.tree_table.specs.Readers.{IsReaderOf, IsNear};
-ghost use Rattle.tree_table.specs.Working.{HasForest, HasTable};
+ghost use Rattle.tree_table.specs.WorkTable.{HasForest, HasTable};
 ghost use Rattle.position_pack.specs.declared.limits.TheConstants.{MAX_PACKED};
 
 use crate::bytes::{Cell, edge_in, fill_cell, key_behind, number_in, number_key};
@@ -37,8 +39,7 @@ pub fn value_into<P: Pages>(
     ensures found { IsTrue (P.store store.old).disk.honest → (text : List ℕ) (entries : Tree → List Item)
         → HasForest slot.now text entries (P.store store.old)
         → IfOk result (λ found. filled_bytes found into.new ≡ find_entry (entries tree) key.now) }
-    ensures unchanged { IsUnchanged (P.store store.old) (P.store store.new) }
-    ensures works { StoreWorks (P.store store.old) (P.store store.new) }
+    ensures read { PagesRead (P.store store.old) (P.store store.new) }
     ensures cause { IfErr result (ReadCause IsNoForest slot.now (P.store store.old) (P.store store.new)) }
 {
     let widths = widths_of(slot.sizes.packed, tree);
@@ -60,8 +61,7 @@ pub fn value_at<P: Pages>(
     ensures found { IsTrue (P.store store.old).disk.honest → (text : List ℕ) (entries : Tree → List Item)
         → HasForest slot.now text entries (P.store store.old)
         → IfOk result (λ found. found_bytes found ≡ find_entry (entries tree) key.now) }
-    ensures unchanged { IsUnchanged (P.store store.old) (P.store store.new) }
-    ensures works { StoreWorks (P.store store.old) (P.store store.new) }
+    ensures read { PagesRead (P.store store.old) (P.store store.new) }
     ensures cause { IfErr result (ReadCause IsNoForest slot.now (P.store store.old) (P.store store.new)) }
 {
     let widths = widths_of(slot.sizes.packed, tree);
@@ -84,8 +84,7 @@ fn entry_after<P: Pages>(
     ensures found { IsTrue (P.store store.old).disk.honest → (text : List ℕ) (entries : Tree → List Item)
         → HasForest slot.now text entries (P.store store.old)
         → IfOk result (λ found. filled_entry found into.new ≡ next_in (entries tree) key.now) }
-    ensures unchanged { IsUnchanged (P.store store.old) (P.store store.new) }
-    ensures works { StoreWorks (P.store store.old) (P.store store.new) }
+    ensures read { PagesRead (P.store store.old) (P.store store.new) }
     ensures cause { IfErr result (ReadCause IsNoForest slot.now (P.store store.old) (P.store store.new)) }
 {
     let widths = widths_of(slot.sizes.packed, tree);
@@ -112,15 +111,13 @@ pub fn find_key<P: Pages>(
     key: &[u8],
 ) -> Result<bool, TableFault>
     requires { IsReading reader.old (P.store store.old) }
-    ensures of { (slot : TreeSlot) (tree : Tree) → IsReaderOf slot tree reader.old → IsReaderOf slot tree reader.new }
-    ensures reading { IsReading reader.new (P.store store.new) }
+    ensures reader { KeepsReading reader.old reader.new (P.store store.new) }
     ensures at { IfOk result (λ found. IsTrue found → HasEntry reader.new) }
     ensures found { (slot : TreeSlot) (tree : Tree) → IsReaderOf slot tree reader.old
         → IsTrue (P.store store.old).disk.honest → (text : List ℕ) (entries : Tree → List Item)
         → HasForest slot text entries (P.store store.old)
         → IfOk result (λ found. found_here found reader.new ≡ find_entry (entries tree) key.now) }
-    ensures unchanged { IsUnchanged (P.store store.old) (P.store store.new) }
-    ensures works { StoreWorks (P.store store.old) (P.store store.new) }
+    ensures read { PagesRead (P.store store.old) (P.store store.new) }
     ensures cause { IfErr result (λ fault. (slot : TreeSlot) (tree : Tree) → IsReaderOf slot tree reader.old
         → ReadCause IsNoForest slot (P.store store.old) (P.store store.new) fault) }
 {
@@ -140,16 +137,9 @@ pub fn cell_into<P: Pages>(
     requires some { 1 ≤ slot.now.sizes.packed }
     requires short { slot.now.sizes.packed ≤ MAX_PACKED }
     requires known { number < slot.now.sizes.counts.known }
-    ensures position { IsTrue (P.store store.old).disk.honest → (text : List ℕ) (table : Stored (List ℕ))
-        → HasTable slot.now text table (P.store store.old)
-        → OnOk result (slice_get table.positions number ≡ Some into.new.position.items) }
-    ensures kept { IsTrue (P.store store.old).disk.honest → (text : List ℕ) (table : Stored (List ℕ))
-        → HasTable slot.now text table (P.store store.old)
-        → OnOk result (HasRecord table number into.new.kept) }
-    ensures long { OnOk result (length into.new.position.items ≡ slot.now.sizes.packed) }
+    ensures cell { OnOk result (IsCellRead slot.now (P.store store.old) number into.new) }
     ensures same { OnErr result (into.new ≡ into.old) }
-    ensures unchanged { IsUnchanged (P.store store.old) (P.store store.new) }
-    ensures works { StoreWorks (P.store store.old) (P.store store.new) }
+    ensures read { PagesRead (P.store store.old) (P.store store.new) }
     ensures cause { IfErr result (ReadCause IsNoTable slot.now (P.store store.old) (P.store store.new)) }
 {
     let key = number_key(number);
@@ -177,18 +167,10 @@ fn cell_by<P: Pages>(
     requires known { number < slot.now.sizes.counts.known }
     requires of { IsReaderOf slot.now Records reader.old }
     requires reading { IsReading reader.old (P.store store.old) }
-    ensures of { IsReaderOf slot.now Records reader.new }
-    ensures reading { IsReading reader.new (P.store store.new) }
-    ensures position { IsTrue (P.store store.old).disk.honest → (text : List ℕ) (table : Stored (List ℕ))
-        → HasTable slot.now text table (P.store store.old)
-        → OnOk result (slice_get table.positions number ≡ Some into.new.position.items) }
-    ensures kept { IsTrue (P.store store.old).disk.honest → (text : List ℕ) (table : Stored (List ℕ))
-        → HasTable slot.now text table (P.store store.old)
-        → OnOk result (HasRecord table number into.new.kept) }
-    ensures long { OnOk result (length into.new.position.items ≡ slot.now.sizes.packed) }
+    ensures near { IsNear slot.now (P.store store.new) (Some reader.new) }
+    ensures cell { OnOk result (IsCellRead slot.now (P.store store.old) number into.new) }
     ensures same { OnErr result (into.new ≡ into.old) }
-    ensures unchanged { IsUnchanged (P.store store.old) (P.store store.new) }
-    ensures works { StoreWorks (P.store store.old) (P.store store.new) }
+    ensures read { PagesRead (P.store store.old) (P.store store.new) }
     ensures cause { IfErr result (ReadCause IsNoTable slot.now (P.store store.old) (P.store store.new)) }
 {
     if !find_key(store, reader, &number_key(number))? {
@@ -215,16 +197,9 @@ pub fn cell_near<P: Pages>(
     requires known { number < slot.now.sizes.counts.known }
     requires near { IsNear slot.now (P.store store.old) near.old }
     ensures near { IsNear slot.now (P.store store.new) near.new }
-    ensures position { IsTrue (P.store store.old).disk.honest → (text : List ℕ) (table : Stored (List ℕ))
-        → HasTable slot.now text table (P.store store.old)
-        → OnOk result (slice_get table.positions number ≡ Some into.new.position.items) }
-    ensures kept { IsTrue (P.store store.old).disk.honest → (text : List ℕ) (table : Stored (List ℕ))
-        → HasTable slot.now text table (P.store store.old)
-        → OnOk result (HasRecord table number into.new.kept) }
-    ensures long { OnOk result (length into.new.position.items ≡ slot.now.sizes.packed) }
+    ensures cell { OnOk result (IsCellRead slot.now (P.store store.old) number into.new) }
     ensures same { OnErr result (into.new ≡ into.old) }
-    ensures unchanged { IsUnchanged (P.store store.old) (P.store store.new) }
-    ensures works { StoreWorks (P.store store.old) (P.store store.new) }
+    ensures read { PagesRead (P.store store.old) (P.store store.new) }
     ensures cause { IfErr result (ReadCause IsNoTable slot.now (P.store store.old) (P.store store.new)) }
 {
     if !follows {
@@ -254,8 +229,7 @@ pub fn number_of<P: Pages>(
         → HasTable slot.now text table (P.store store.old)
         → IfOk result (λ r. IfNone r ((i : ℕ) → slice_get table.positions i ≡ Some packed.now.items → ⊥)) }
     ensures within { IfOk result (λ r. IfSome r (λ i. i < slot.now.sizes.counts.known)) }
-    ensures unchanged { IsUnchanged (P.store store.old) (P.store store.new) }
-    ensures works { StoreWorks (P.store store.old) (P.store store.new) }
+    ensures read { PagesRead (P.store store.old) (P.store store.new) }
     ensures cause { IfErr result (ReadCause IsNoTable slot.now (P.store store.old) (P.store store.new)) }
 {
     let mut value = Bytes::new();
@@ -299,10 +273,8 @@ pub fn edge_after<P: Pages>(
     ensures none { IsTrue (P.store store.old).disk.honest → (text : List ℕ) (table : Stored (List ℕ))
         → HasTable slot.now text table (P.store store.old)
         → IfOk result (λ r. IfNone r (HasNoMoreEdges table successor after)) }
-    ensures within { IfOk result (λ r. IfSome r (λ p. p < slot.now.sizes.counts.known)) }
-    ensures later { IfOk result (λ r. IfSome r (IsAfter after)) }
-    ensures unchanged { IsUnchanged (P.store store.old) (P.store store.new) }
-    ensures works { StoreWorks (P.store store.old) (P.store store.new) }
+    ensures bounds { IfOk result (λ r. IfSome r (IsKnownAfter slot.now.sizes.counts.known after)) }
+    ensures read { PagesRead (P.store store.old) (P.store store.new) }
     ensures cause { IfErr result (ReadCause IsNoTable slot.now (P.store store.old) (P.store store.new)) }
 {
     let key = key_behind(successor, after);
@@ -335,8 +307,7 @@ pub fn settled_at<P: Pages>(store: &mut P, slot: &TreeSlot, place: u32) -> Resul
     ensures number { IsTrue (P.store store.old).disk.honest → (text : List ℕ) (table : Stored (List ℕ))
         → HasTable slot.now text table (P.store store.old)
         → IfOk result (λ i. slice_get table.order place ≡ Some i) }
-    ensures unchanged { IsUnchanged (P.store store.old) (P.store store.new) }
-    ensures works { StoreWorks (P.store store.old) (P.store store.new) }
+    ensures read { PagesRead (P.store store.old) (P.store store.new) }
     ensures cause { IfErr result (ReadCause IsNoTable slot.now (P.store store.old) (P.store store.new)) }
 {
     let key = number_key(place);

@@ -2,9 +2,8 @@
 ghost use Rattle.std.specs.Prelude.{◌≡◌, ◌+◌, ◌≤◌, ◌<◌, ℕ, Option, Some, slice_index, IfSome, IfNone};
 ghost use Rattle.position_pack.specs.declared.kind.PackingKind.{PackingKind};
 ghost use Rattle.rbg_game.specs.declared.limits.TheConstants.{MAX_POINTS};
-ghost use Rattle.game_file.specs.Fields.{word_at as word_in, layout_in, packing_in, commits_in, capacity_in, goal_number_in};
-ghost use Rattle.game_file.specs.Fields.{number_of_packing as number_of, AreZero, HasPlaceFor, SaysPages};
-ghost use Rattle.tree_table.specs.Slot.{roots_in, slot_in, IsEmptyTreeSlot, IsGameTreeSlot, IsNoTreeSlot, SaysTrees};
+ghost use Rattle.game_file.specs.Fields.{word_at as word_in, packing_in, commits_in, capacity_in, goal_number_in};
+ghost use Rattle.tree_table.specs.Slot.{roots_in, IsGameTreeSlot, IsNoTreeSlot, SaysTrees, IsEmptySlotOf, IsGameSlotOf, HasSizes};
 
 use crate::tree::Roots;
 use game_file::{
@@ -122,13 +121,7 @@ fn number_of_pages(layout: u32, pages: u32) -> u32
 
 /// The slot of a table of this layout and this many pages in which no game is loaded, after no commit.
 pub fn empty_slot(layout: u32, pages: u32) -> [u8; 512]
-    ensures layout { layout_in result ≡ layout }
-    ensures pages { SaysPages result pages }
-    ensures empty { IsEmptyTreeSlot result }
-    ensures commits { commits_in result ≡ 0 }
-    ensures fields { AreZero 4 68 result }
-    ensures behind { AreZero 72 512 result }
-    ensures unsaid { layout < 3 → capacity_in result ≡ 0 }
+    ensures { IsEmptySlotOf layout pages result }
 {
     let mut root = [0; 512];
     put_word(&mut root, 0, layout);
@@ -152,13 +145,7 @@ fn put_roots(root: &mut [u8; 512], roots: Roots)
 /// The slot of a table of this layout and this many pages with a game, after this many commits. It names the goal where the layout has a
 /// place for it. All bytes without a field are zero.
 pub fn game_slot(layout: u32, pages: u32, commits: u64, slot: &TreeSlot) -> [u8; 512]
-    ensures layout { layout_in result ≡ layout }
-    ensures pages { SaysPages result pages }
-    ensures packing { packing_in result ≡ number_of slot.now.packing }
-    ensures commits { commits_in result ≡ commits }
-    ensures slot { HasPlaceFor layout slot.now.goal → slot_in result ≡ slot.now }
-    ensures behind { AreZero 76 512 result }
-    ensures unsaid { layout < 3 → capacity_in result ≡ 0 }
+    ensures { IsGameSlotOf layout pages commits slot.now result }
 {
     let mut root = empty_slot(layout, pages);
     put_word(&mut root, 4, number_of_packing(slot.packing));
@@ -173,15 +160,7 @@ pub fn game_slot(layout: u32, pages: u32, commits: u64, slot: &TreeSlot) -> [u8;
 
 /// Puts into a slot how much there is of the text and the table, but for the edges.
 fn put_sizes(root: &mut [u8; 512], sizes: &Sizes)
-    ensures text { word_in root.new 20 ≡ sizes.now.text }
-    ensures packed { word_in root.new 24 ≡ sizes.now.packed }
-    ensures known { word_in root.new 28 ≡ sizes.now.counts.known }
-    ensures expanded { word_in root.new 32 ≡ sizes.now.counts.expanded }
-    ensures settled { word_in root.new 36 ≡ sizes.now.counts.settled }
-    ensures processed { word_in root.new 40 ≡ sizes.now.counts.processed }
-    ensures before { (k : ℕ) → k + 4 ≤ 20 → word_in root.new k ≡ word_in root.old k }
-    ensures ahead { (k : ℕ) → k < 20 → slice_index root.new k ≡ slice_index root.old k }
-    ensures behind { (k : ℕ) → 44 ≤ k → slice_index root.new k ≡ slice_index root.old k }
+    ensures { HasSizes sizes.now root.old root.new }
 {
     put_word(root, 20, sizes.text);
     put_word(root, 24, sizes.packed);

@@ -7,7 +7,7 @@ ghost use Rattle.position_pack.specs.declared.limits.TheConstants.{MAX_PACKED};
 ghost use Rattle.retrograde.specs.Stored.{Stored, HasRecord};
 ghost use Rattle.tree_table.specs.Causes.{IsNoTable, ReadCause};
 ghost use Rattle.tree_table.specs.Versions.{StandsInVersion};
-ghost use Rattle.tree_table.specs.Working.{WorkStays};
+ghost use Rattle.tree_table.specs.WorkTable.{WorkStays};
 
 use crate::bytes::no_cell;
 use crate::read::cell_into;

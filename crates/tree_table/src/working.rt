@@ -1,14 +1,14 @@
 //! A game's table on trees of pages.
 ghost use Rattle.std.specs.Prelude.{◌≡◌, ◌↔◌, ◌≤◌, ◌^◌, [], false, length, IfSome, IsTrue};
 ghost use Rattle.page_store.specs.Marks.{free_count};
-ghost use Rattle.tree_table.specs.Working.{HoldsWork, IsHonestWork, bare_slot as bare, table_now, work_of};
+ghost use Rattle.tree_table.specs.WorkTable.{HoldsWork, IsHonestWork, bare_slot as bare, table_now, work_of};
 ghost use Rattle.tree_table.specs.Last.{IsLastSeen};
-ghost use Rattle.tree_table.specs.aid.Last.{long_prop, last_prop};
+ghost use Rattle.tree_table.specs.lemmas.Last.{long_prop, last_prop};
 ghost use Rattle.tree_table.specs.Readers.{IsNear};
-ghost use Rattle.tree_table.specs.aid.Readers.{near_prop};
+ghost use Rattle.tree_table.specs.lemmas.Readers.{near_prop};
 ghost use Rattle.table.specs.Records.{nothing};
-ghost use Rattle.tree_table.specs.Working as work;
-ghost use Rattle.tree_table.specs.aid.Frames as frames;
+ghost use Rattle.tree_table.specs.WorkTable as work;
+ghost use Rattle.tree_table.specs.lemmas.Frames as frames;
 ghost use Rattle.position_pack.specs.declared.limits.TheConstants.{MAX_PACKED};
 ghost use Rattle.rbg_game.specs.declared.limits.TheConstants.{MAX_POINTS};
 

@@ -11,8 +11,8 @@ use Rattle.solver.specs.declared.replies.Reply.{Reply}
 use Rattle.solver.specs.Headline.{IsAnsweredBy, LeavesAPrefix}
 use Rattle.solver.specs.Histories.{Sitting, History, was_made, was_reopened, was_not_opened, IsSitting, IsFound, no_call, by_closing}
 use Rattle.solver.specs.Machine.{Command}
-use Rattle.solver.specs.Opening.{IsCreated, IsOpened}
-use Rattle.witness.specs.aid.Sittings.{IsOwn, AreOwn, IsOwnSitting, IsBehindSittings, EndsOwnSitting}
+use Rattle.solver.specs.Opened.{IsCreated, IsOpened}
+use Rattle.witness.specs.lemmas.Sittings.{IsOwn, AreOwn, IsOwnSitting, IsBehindSittings, EndsOwnSitting}
 
 fresh_size : (disk : Disk) → IsFresh 256 disk → size disk ≡ 256
 fresh_size disk fresh = let zeros : List ℕ = replicate 512 0 in ap length fresh.contents ∙ length-replicate 256 zeros

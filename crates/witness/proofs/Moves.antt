@@ -14,9 +14,9 @@ use Rattle.legal_moves.specs.Glushkov.{IsFirst, IsNext, IsNextAt}
 use Rattle.legal_moves.specs.Searches.{Searched, begun, gone, Reaches, IsWide, IsWideFrom, many, within, place_at}
 use Rattle.legal_moves.proofs.Distinct.{distinct-le}
 use Rattle.legal_moves.proofs.EffectLemmas.{EffectAt-functional, EffectAt-by_action, action_at-one, option_or-cases}
-use Rattle.legal_moves.proofs.SearchLemmas.{Searched-by_move, move-by_Searched, Searched-by_Reaches}
-use Rattle.legal_moves.proofs.Walks.{IsFirst-by_next, IsNext-by_next}
-use Rattle.legal_moves.proofs.WidthLemmas.{contains_by_get}
+use Rattle.legal_moves.proofs.searches.SearchLemmas.{Searched-by_move, move-by_Searched, Searched-by_Reaches}
+use Rattle.legal_moves.proofs.automata.Walks.{IsFirst-by_next, IsNext-by_next}
+use Rattle.legal_moves.proofs.searches.WidthLemmas.{contains_by_get}
 use Rattle.witness.specs.Game.{witness_game, white_chooses, white_has_won, black_has_won}
 
 abbrev rules : Regex
@@ -137,7 +137,8 @@ position_is at other state place = λ i. record { state = state i; place = place
 only_start : (next : Position) → OfStart next.state next.place → is_switch (action_at rules 1 next.place) ≡ true → next ≡ white_chooses
 only_start next is switches = go next.state next.place is switches (position_is next)
   where
-    go : (T : SemiState) (k : ℕ) → OfStart T k → is_switch (action_at rules 1 k) ≡ true → ((other : Position) → T ≡ other.state → k ≡ other.place → next ≡ other) → next ≡ white_chooses
+    go : (T : SemiState) (k : ℕ) → OfStart T k → is_switch (action_at rules 1 k) ≡ true
+        → ((other : Position) → T ≡ other.state → k ≡ other.place → next ≡ other) → next ≡ white_chooses
     go _ _ begins switches same = absurd (cc)
     go _ _ hands_over switches same = same white_chooses refl refl
 
@@ -147,10 +148,12 @@ only_hands_over next (w, move) =
     let is = Searched-by_move witness_game start w next move in
     only_start next (of_start w next.state next.place is.0) is.1
 
-only_choice : (next : Position) → OfChoice next.state next.place → is_switch (action_at rules 1 next.place) ≡ true → (next ≡ black_has_won) ⊎ (next ≡ white_has_won)
+only_choice : (next : Position) → OfChoice next.state next.place → is_switch (action_at rules 1 next.place) ≡ true
+    → (next ≡ black_has_won) ⊎ (next ≡ white_has_won)
 only_choice next is switches = go next.state next.place is switches (position_is next)
   where
-    go : (T : SemiState) (k : ℕ) → OfChoice T k → is_switch (action_at rules 1 k) ≡ true → ((other : Position) → T ≡ other.state → k ≡ other.place → next ≡ other) → (next ≡ black_has_won) ⊎ (next ≡ white_has_won)
+    go : (T : SemiState) (k : ℕ) → OfChoice T k → is_switch (action_at rules 1 k) ≡ true
+        → ((other : Position) → T ≡ other.state → k ≡ other.place → next ≡ other) → (next ≡ black_has_won) ⊎ (next ≡ white_has_won)
     go _ _ chooses switches same = absurd (cc)
     go _ _ gives switches same = absurd (cc)
     go _ _ takes switches same = absurd (cc)
@@ -170,7 +173,8 @@ no_end S _ _ ends switches = cc
 pub play_is_over : (at : Position) → at.place ≡ 4 → HasNoMove witness_game at
 play_is_over at last next (w, move) =
     let is = Searched-by_move witness_game at w next move in
-    no_end at.state next.state next.place (of_end at.state w next.state next.place (subst (λ p. Searched witness_game rules p at.state w next.state next.place) last is.0)) is.1
+    no_end at.state next.state next.place
+    (of_end at.state w next.state next.place (subst (λ p. Searched witness_game rules p at.state w next.state next.place) last is.0)) is.1
 
 pub keeper_hands_over : IsSuccessor witness_game start white_chooses
 keeper_hands_over = (

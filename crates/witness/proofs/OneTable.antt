@@ -3,7 +3,7 @@ use Rattle.std.proofs.Common.{◌≡◌, ℕ, List, [], ◌∷◌, Option, None,
 use Rattle.std.specs.Prelude.{IsTrue}
 use Rattle.game_file.specs.Kept.{Kept, Layout}
 use Rattle.game_file.specs.State.{State, GoesAhead}
-use Rattle.sector_disk.specs.aid.Moments.{still_honest}
+use Rattle.sector_disk.specs.lemmas.Moments.{still_honest}
 use Rattle.solver.specs.declared.replies.Reply.TheVariants.{Loaded, Worked}
 use Rattle.solver.specs.declared.replies.Worked.{Worked as Done}
 use Rattle.solver.specs.Histories.{DoAll}

@@ -13,13 +13,13 @@ use Rattle.retrograde.specs.Graph.{Graph, IsEnded, IsReachable}
 use Rattle.retrograde.specs.Expands.{IsChoice}
 use Rattle.legal_moves.specs.Moves.{IsSuccessor}
 use Rattle.legal_moves.specs.Sources.{IsAt, IsWideAt, graph_of}
-use Rattle.legal_moves.proofs.CompiledLemmas.{start_position}
-use Rattle.legal_moves.proofs.FieldLemmas.{role_is, leader_is}
-use Rattle.legal_moves.proofs.ReachLemmas.{position_of}
-use Rattle.legal_moves.proofs.SourceLemmas.{one_position, narrow_at}
-use Rattle.legal_moves.proofs.WidthLemmas.{contains_by_get}
+use Rattle.legal_moves.proofs.automata.CompiledLemmas.{start_position}
+use Rattle.legal_moves.proofs.answers.FieldLemmas.{role_is, leader_is}
+use Rattle.legal_moves.proofs.answers.ReachLemmas.{position_of}
+use Rattle.legal_moves.proofs.answers.SourceLemmas.{one_position, narrow_at}
+use Rattle.legal_moves.proofs.searches.WidthLemmas.{contains_by_get}
 use Rattle.witness.specs.Game.{witness_text, witness_game, white_chooses, black_has_won, white_has_won}
-use Rattle.witness.proofs.Reading.{witness_read}
+use Rattle.witness.proofs.TextReads.{witness_read}
 use Rattle.witness.proofs.Moves.{start, only_hands_over, only_two, play_is_over, keeper_hands_over, white_may_lose, white_may_win}
 use Rattle.witness.proofs.Moves.{start_is_narrow, choice_is_narrow, end_is_narrow}
 
@@ -54,8 +54,12 @@ module _ (kind : PackingKind) where
   -- a move between bytes is one between their positions
   move_of : (at : Position) → IsPositionOf witness_game at → (y : List ℕ) → (graph kind).Successor (packed kind at) y
       → (next : Position) × IsSuccessor witness_game at next × (y ≡ packed kind next)
-  move_of at is y (other, next, from, to, leads) =
-      (next, subst (λ p. IsSuccessor witness_game p next) (one_position kind witness_game sound (packed kind at) at other (here at is) from) leads, to.bytes_are)
+  move_of at is y (other, next, from, to, leads) = (
+    next,
+    subst (λ p. IsSuccessor witness_game p next)
+        (one_position kind witness_game sound (packed kind at) at other (here at is) from) leads,
+    to.bytes_are,
+  )
 
   pub hands_over : (graph kind).Successor (graph kind).start (packed kind white_chooses)
   hands_over = (start, white_chooses, here start start_is_one, here white_chooses chooses_is_one, keeper_hands_over)
@@ -73,7 +77,8 @@ module _ (kind : PackingKind) where
   from_choice : (y : List ℕ) → (graph kind).Successor (packed kind white_chooses) y → (y ≡ packed kind black_has_won) ⊎ (y ≡ packed kind white_has_won)
   from_choice y leads = go (move_of white_chooses chooses_is_one y leads)
     where
-      go : (next : Position) × IsSuccessor witness_game white_chooses next × (y ≡ packed kind next) → (y ≡ packed kind black_has_won) ⊎ (y ≡ packed kind white_has_won)
+      go : (next : Position) × IsSuccessor witness_game white_chooses next × (y ≡ packed kind next)
+          → (y ≡ packed kind black_has_won) ⊎ (y ≡ packed kind white_has_won)
       go (next, move, same) = each (only_two next move)
         where
           each : (next ≡ black_has_won) ⊎ (next ≡ white_has_won) → (y ≡ packed kind black_has_won) ⊎ (y ≡ packed kind white_has_won)
@@ -144,5 +149,7 @@ module _ (kind : PackingKind) where
   pub no_width : (x : List ℕ) → Comes x → IsWideAt kind witness_game x → ⊥
   no_width _ to_start = narrow_at kind witness_game sound (packed kind start) start (here start start_is_one) start_is_narrow
   no_width _ to_choice = narrow_at kind witness_game sound (packed kind white_chooses) white_chooses (here white_chooses chooses_is_one) choice_is_narrow
-  no_width _ to_loss = narrow_at kind witness_game sound (packed kind black_has_won) black_has_won (here black_has_won black_is_one) (end_is_narrow black_has_won.state)
-  no_width _ to_win = narrow_at kind witness_game sound (packed kind white_has_won) white_has_won (here white_has_won white_is_one) (end_is_narrow white_has_won.state)
+  no_width _ to_loss = narrow_at kind witness_game sound (packed kind black_has_won) black_has_won (here black_has_won black_is_one)
+      (end_is_narrow black_has_won.state)
+  no_width _ to_win = narrow_at kind witness_game sound (packed kind white_has_won) white_has_won (here white_has_won white_is_one)
+      (end_is_narrow white_has_won.state)

@@ -4,13 +4,13 @@ use Rattle.std.proofs.lemmas.Option.{same_Some}
 use Rattle.rbg_game.specs.declared.roles.Player.{Player}
 use Rattle.std.specs.Prelude.{IsTrue}
 use Rattle.sector_disk.specs.Disk.{Picture, Shown, Disk, MayLeave, at_present}
-use Rattle.sector_disk.specs.aid.Moments.{still_honest, reads_left}
+use Rattle.sector_disk.specs.lemmas.Moments.{still_honest, reads_left}
 use Rattle.best_line.specs.declared.answers.Value.{Value}
 use Rattle.best_line.specs.declared.answers.Value.TheVariants.{Won, Drawn, Open}
 use Rattle.solver.specs.Machine.{Command}
-use Rattle.recover.specs.Tables.{BriefTable, Told, the_value, IsForGood, TellsValue}
-use Rattle.recover.specs.Brief as brief
-use Rattle.recover.specs.Brief.{Calls, AreLawful, BriefAnswer, BriefSitting, AreCalls, BriefHistory, BriefHeadline, OfTable}
+use Rattle.headline.specs.Tables.{BriefTable, Told, the_value, IsForGood, TellsValue}
+use Rattle.headline.specs.Brief as brief
+use Rattle.headline.specs.Brief.{Calls, AreLawful, BriefAnswer, BriefSitting, AreCalls, BriefHistory, BriefHeadline, OfTable}
 
 -- a position has one value, once it is settled or the table is finished
 one_value : (table : Option BriefTable) (v w : Value) → TellsValue 0 v table → TellsValue 0 w table → IsForGood (the_value 0 v) → w ≡ v

@@ -20,7 +20,7 @@ use Rattle.frontier.specs.Causes.{IsRefusal, IsCause, HasUnitCause}
 use Rattle.frontier.specs.declared.fault.StepFault.{StepFault}
 use Rattle.frontier.specs.declared.fault.StepFault.TheVariants as step
 use Rattle.witness.specs.Game.{witness_game}
-use Rattle.witness.proofs.Finishing.{four_known}
+use Rattle.witness.proofs.NineUnits.{four_known}
 use Rattle.witness.proofs.Positions.{graph, all, comes, is_among, no_choice, no_width}
 
 ordered : (xs : List (List ℕ)) → IsStrictlySortedBy packed_cmp xs → AllPairs (λ x y. packed_cmp x y ≡ Less) xs

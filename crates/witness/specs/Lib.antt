@@ -1,7 +1,7 @@
 pub use Rattle.game_file.specs.State
 pub use Rattle.legal_moves.specs.Moves
 pub use Rattle.legal_moves.specs.Sources
-pub use Rattle.rbg_read.specs.Reading
+pub use Rattle.rbg_read.specs.Reads
 pub use Rattle.solver.specs.Held
 pub use Rattle.solver.specs.Solvers
 pub use Rattle.solver.specs.Units
@@ -10,4 +10,4 @@ pub use Rattle.sector_disk.specs.Disk
 pub mod Game
 pub mod Sittings
 pub mod Printed
-pub mod aid
+pub mod lemmas

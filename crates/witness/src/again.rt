@@ -1,13 +1,13 @@
 //! What was told is told again: the headline in brief, on a table that is used, closed, and opened once more.
 ghost use Rattle.std.specs.Prelude.{◌≡◌, ◌∷◌, [], List, IfOk, IsTrue};
-ghost use Rattle.recover.specs.Brief.{AreCalls, BriefAnswer};
-ghost use Rattle.recover.specs.Tables.{IsForGood, the_value};
+ghost use Rattle.headline.specs.Brief.{AreCalls, BriefAnswer};
+ghost use Rattle.headline.specs.Tables.{IsForGood, the_value};
 ghost use Rattle.solver.specs.Machine.{Command};
 
 use crate::sittings::{text, units};
 use best_line::Value;
-use recover::SavedTable;
-use recover::saved::{the_headline_in_brief, the_table_of_a_sitting};
+use headline::SavedTable;
+use headline::saved::{the_headline_in_brief, the_table_of_a_sitting};
 use solver::SolverFault;
 use std::alloc::Global;
 

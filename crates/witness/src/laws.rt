@@ -6,7 +6,7 @@ ghost use Rattle.position_pack.specs.declared.kind.PackingKind.{PackingKind};
 ghost use Rattle.rbg_game.specs.declared.position.Position.{Position};
 ghost use Rattle.rbg_game.specs.declared.roles.Player.{Player};
 ghost use Rattle.rbg_game.specs.declared.roles.Player.TheVariants.{First};
-ghost use Rattle.rbg_read.specs.Reading.{Reads};
+ghost use Rattle.rbg_read.specs.Reads.{Reads};
 ghost use Rattle.retrograde.specs.Values.{WonIn, Drawn};
 ghost use Rattle.witness.specs.Game.{witness_text, witness_game, white_chooses, black_has_won, white_has_won};
 

@@ -5,8 +5,8 @@ ghost use Rattle.rbg_game.specs.declared.roles.Player.TheVariants.{First};
 ghost use Rattle.sector_disk.specs.Disk.{IsFresh, Grew};
 ghost use Rattle.sector_disk.specs.InMemory.{disk_in};
 ghost use Rattle.witness.specs.Sittings.{IsWantOfRoom, HasFailed};
-ghost use Rattle.recover.specs.Migrating.{AreLayouts, EitherLayout};
-ghost use Rattle.witness.specs.aid.Migrations.{IsLeftFinished, IsInMigrations, WasBegun, GoesOnFinished};
+ghost use Rattle.recover.specs.Migrations.{AreLayouts, EitherLayout};
+ghost use Rattle.witness.specs.lemmas.Migrations.{IsLeftFinished, IsInMigrations, WasBegun, GoesOnFinished};
 
 use crate::sittings::{finish, value_of_finished};
 use crate::stop::SECTORS;
@@ -14,7 +14,7 @@ use crate::stopping_disk::StoppingDisk;
 use crate::unanswered::Unanswered;
 use best_line::Value;
 use game_file::GameFile;
-use recover::laws::{
+use headline::laws::{
     a_picture_stores_one_table_of_all_layouts, stopped_migrations_go_on,
     the_headline_of_found_tables,
 };

@@ -7,7 +7,7 @@ ghost use Rattle.solver.specs.Solvers.{state, IsReady};
 ghost use Rattle.solver.specs.Units.{units_in};
 ghost use Rattle.solver.specs.declared.listing.Listing.{Listing};
 ghost use Rattle.witness.specs.Printed.{IsPrintedInTwo};
-ghost use Rattle.witness.specs.aid.Printing.{AllGoOn, StandsLast, IsBegunOf, HasPrinted, IsEndedOf};
+ghost use Rattle.witness.specs.lemmas.Listings.{AllGoOn, StandsLast, IsBegunOf, HasPrinted, IsEndedOf};
 
 use crate::sittings::{text, units};
 use game_file::Versions;

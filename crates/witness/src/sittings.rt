@@ -10,8 +10,8 @@ ghost use Rattle.solver.specs.Solvers.{state, IsReady};
 ghost use Rattle.solver.specs.Units.{units_in};
 ghost use Rattle.witness.specs.Game.{witness_text};
 ghost use Rattle.witness.specs.Sittings.{IsWantOfRoom};
-ghost use Rattle.witness.specs.aid.Sittings.{IsBehindSittings, IsFoundBehind};
-ghost use Rattle.witness.specs.aid.Sittings.{EndsOwnSitting, HasSuchTable, IsNoneOrIt, IsIt, IsItFinished};
+ghost use Rattle.witness.specs.lemmas.Sittings.{IsBehindSittings, IsFoundBehind};
+ghost use Rattle.witness.specs.lemmas.Sittings.{EndsOwnSitting, HasSuchTable, IsNoneOrIt, IsIt, IsItFinished};
 
 use best_line::Value;
 use game_file::GameFile;

@@ -1,10 +1,11 @@
 //! A page on the way to the next entry is looked at: where it stands, if it is in memory, and else as it is read.
 ghost use Rattle.std.specs.Prelude.{IfOk, IfErr, IfSome, IfNone, IsTrue};
-ghost use Rattle.page_store.specs.Store.{reads, StoreWorks, IsUnchanged};
+ghost use Rattle.page_store.specs.Frames.{PagesRead};
+ghost use Rattle.page_store.specs.Store.{reads};
 ghost use Rattle.btree.specs.Page.{IsPage};
 ghost use Rattle.btree.specs.declared.page.kind.Kind.{Kind};
-ghost use Rattle.btree.specs.aid.Ahead.{SeesAhead};
-ghost use Rattle.btree.specs.aid.Seen.{SeenCause};
+ghost use Rattle.btree.specs.lemmas.Ahead.{SeesAhead};
+ghost use Rattle.btree.specs.lemmas.Seen.{SeenCause};
 
 use crate::find::entry::{Bytes, Entry};
 use crate::find::leaf::entry_after;
@@ -46,8 +47,7 @@ fn ahead_far<P: Pages>(
 ) -> Result<Ahead, PageFault>
     ensures seen { IsTrue (P.store store.old).disk.honest
         → IfOk result (λ ahead. SeesAhead widths (reads (P.store store.old) page) key.now into.new ahead) }
-    ensures unchanged { IsUnchanged (P.store store.old) (P.store store.new) }
-    ensures works { StoreWorks (P.store store.old) (P.store store.new) }
+    ensures read { PagesRead (P.store store.old) (P.store store.new) }
     ensures cause { IfErr result (SeenCause widths page (P.store store.old) (P.store store.new)) }
 {
     let mut bytes = [0; 4096];
@@ -68,8 +68,7 @@ pub fn ahead_at<P: Pages>(
 ) -> Result<Ahead, PageFault>
     ensures seen { IsTrue (P.store store.old).disk.honest
         → IfOk result (λ ahead. SeesAhead widths (reads (P.store store.old) page) key.now into.new ahead) }
-    ensures unchanged { IsUnchanged (P.store store.old) (P.store store.new) }
-    ensures works { StoreWorks (P.store store.old) (P.store store.new) }
+    ensures read { PagesRead (P.store store.old) (P.store store.new) }
     ensures cause { IfErr result (SeenCause widths page (P.store store.old) (P.store store.new)) }
 {
     if !store.touch(page) {

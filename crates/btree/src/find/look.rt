@@ -1,10 +1,11 @@
 //! A page on the way to a key is looked at: where it stands, if it is in memory, and else as it is read.
 ghost use Rattle.std.specs.Prelude.{IfOk, IfErr, IfSome, IfNone, IsTrue};
-ghost use Rattle.page_store.specs.Store.{reads, StoreWorks, IsUnchanged};
+ghost use Rattle.page_store.specs.Frames.{PagesRead};
+ghost use Rattle.page_store.specs.Store.{reads};
 ghost use Rattle.btree.specs.Page.{IsPage};
 ghost use Rattle.btree.specs.declared.page.kind.Kind.{Kind};
 ghost use Rattle.btree.specs.declared.page.kind.Kind.TheVariants.{Inner};
-ghost use Rattle.btree.specs.aid.Seen.{Sees, SeenCause, LeadsOn};
+ghost use Rattle.btree.specs.lemmas.Seen.{Sees, SeenCause, LeadsOn};
 
 use crate::find::entry::Bytes;
 use crate::find::leaf::value_in;
@@ -53,8 +54,7 @@ fn look_far<P: Pages>(
 ) -> Result<Seen, PageFault>
     ensures seen { IsTrue (P.store store.old).disk.honest
         → IfOk result (λ seen. Sees widths (reads (P.store store.old) page) key.now into.new seen) }
-    ensures unchanged { IsUnchanged (P.store store.old) (P.store store.new) }
-    ensures works { StoreWorks (P.store store.old) (P.store store.new) }
+    ensures read { PagesRead (P.store store.old) (P.store store.new) }
     ensures cause { IfErr result (SeenCause widths page (P.store store.old) (P.store store.new)) }
 {
     let mut bytes = [0; 4096];
@@ -75,8 +75,7 @@ pub fn look_at<P: Pages>(
 ) -> Result<Seen, PageFault>
     ensures seen { IsTrue (P.store store.old).disk.honest
         → IfOk result (λ seen. Sees widths (reads (P.store store.old) page) key.now into.new seen) }
-    ensures unchanged { IsUnchanged (P.store store.old) (P.store store.new) }
-    ensures works { StoreWorks (P.store store.old) (P.store store.new) }
+    ensures read { PagesRead (P.store store.old) (P.store store.new) }
     ensures cause { IfErr result (SeenCause widths page (P.store store.old) (P.store store.new)) }
 {
     if !store.touch(page) {

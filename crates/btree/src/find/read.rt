@@ -1,6 +1,6 @@
 //! A map is asked for a key.
 ghost use Rattle.std.specs.Prelude.{◌≡◌, ℕ, List, IfOk, IfErr, IsTrue};
-ghost use Rattle.page_store.specs.Store.{StoreWorks, IsUnchanged};
+ghost use Rattle.page_store.specs.Frames.{PagesRead};
 ghost use Rattle.btree.specs.Page.{Item};
 ghost use Rattle.btree.specs.Changes.{HoldsMap, MapReadCause};
 ghost use Rattle.btree.specs.Entries.{find_entry, next_after as next_in};
@@ -24,8 +24,7 @@ pub fn get_into<P: Pages>(
 ) -> Result<bool, PageFault>
     ensures found { IsTrue (P.store store.old).disk.honest → IfOk result (λ found. (pages : List ℕ) (es : List Item)
         → HoldsMap widths (P.store store.old) root pages es → filled_bytes found into.new ≡ find_entry es key.now) }
-    ensures unchanged { IsUnchanged (P.store store.old) (P.store store.new) }
-    ensures works { StoreWorks (P.store store.old) (P.store store.new) }
+    ensures read { PagesRead (P.store store.old) (P.store store.new) }
     ensures cause { IfErr result (MapReadCause widths root (P.store store.old) (P.store store.new)) }
 {
     if root == 0 {
@@ -50,8 +49,7 @@ pub fn get<P: Pages>(
 ) -> Result<Option<Bytes>, PageFault>
     ensures found { IsTrue (P.store store.old).disk.honest → IfOk result (λ found. (pages : List ℕ) (es : List Item)
         → HoldsMap widths (P.store store.old) root pages es → found_bytes found ≡ find_entry es key.now) }
-    ensures unchanged { IsUnchanged (P.store store.old) (P.store store.new) }
-    ensures works { StoreWorks (P.store store.old) (P.store store.new) }
+    ensures read { PagesRead (P.store store.old) (P.store store.new) }
     ensures cause { IfErr result (MapReadCause widths root (P.store store.old) (P.store store.new)) }
 {
     let mut value = Bytes::new();
@@ -73,8 +71,7 @@ pub fn next_into<P: Pages>(
 ) -> Result<bool, PageFault>
     ensures found { IsTrue (P.store store.old).disk.honest → IfOk result (λ found. (pages : List ℕ) (es : List Item)
         → HoldsMap widths (P.store store.old) root pages es → filled_entry found into.new ≡ next_in es key.now) }
-    ensures unchanged { IsUnchanged (P.store store.old) (P.store store.new) }
-    ensures works { StoreWorks (P.store store.old) (P.store store.new) }
+    ensures read { PagesRead (P.store store.old) (P.store store.new) }
     ensures cause { IfErr result (MapReadCause widths root (P.store store.old) (P.store store.new)) }
 {
     if root == 0 {
@@ -105,8 +102,7 @@ pub fn next_after<P: Pages>(
 ) -> Result<Option<Entry>, PageFault>
     ensures found { IsTrue (P.store store.old).disk.honest → IfOk result (λ found. (pages : List ℕ) (es : List Item)
         → HoldsMap widths (P.store store.old) root pages es → found_entry found ≡ next_in es key.now) }
-    ensures unchanged { IsUnchanged (P.store store.old) (P.store store.new) }
-    ensures works { StoreWorks (P.store store.old) (P.store store.new) }
+    ensures read { PagesRead (P.store store.old) (P.store store.new) }
     ensures cause { IfErr result (MapReadCause widths root (P.store store.old) (P.store store.new)) }
 {
     let mut entry = no_entry();

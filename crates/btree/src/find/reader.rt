@@ -1,12 +1,13 @@
 //! A map is asked for one key after another: the leaf that was reached last stays in memory.
 ghost use Rattle.std.specs.Prelude.{◌≡◌, ◌≢◌, ◌↔◌, ℕ, List, Some, None, true, OnOk, OnErr, OnSome, IfOk, IfErr, IfSome, IfNone, IsTrue, slice_index};
-ghost use Rattle.page_store.specs.Store.{Store, StoreWorks, IsUnchanged};
+ghost use Rattle.page_store.specs.Frames.{PagesRead};
+ghost use Rattle.page_store.specs.Store.{Store};
 ghost use Rattle.btree.specs.declared.page.kind.Kind.TheVariants.{Leaf};
 ghost use Rattle.btree.specs.Page.{Item, items_in, IsPage};
 ghost use Rattle.btree.specs.Changes.{HoldsMap, MapReadCause};
 ghost use Rattle.btree.specs.Entries.{Ascend, find_entry};
-ghost use Rattle.btree.specs.Reading.{HasKey};
-ghost use Rattle.btree.specs.aid.Leaving.{IsLeafFor};
+ghost use Rattle.btree.specs.LeafRead.{HasKey};
+ghost use Rattle.btree.specs.lemmas.Leaves.{IsLeafFor};
 
 use crate::find::way::step;
 use crate::map::MAX_LEVELS;
@@ -36,8 +37,7 @@ fn go_down<P: Pages>(
     requires { root ≢ 0 }
     ensures page { OnOk result (IsPage widths Leaf leaf.new) }
     ensures belongs { IsTrue (P.store store.old).disk.honest → OnOk result (IsLeafFor widths (P.store store.old) root key.now leaf.new) }
-    ensures unchanged { IsUnchanged (P.store store.old) (P.store store.new) }
-    ensures works { StoreWorks (P.store store.old) (P.store store.new) }
+    ensures read { PagesRead (P.store store.old) (P.store store.new) }
     ensures cause { IfErr result (MapReadCause widths root (P.store store.old) (P.store store.new)) }
 {
     let mut page = root;
@@ -64,8 +64,7 @@ fn reach_leaf<P: Pages>(
     ensures page { OnOk result (IsPage widths Leaf leaf.new) }
     ensures none { OnErr result (slice_index leaf.new 0 ≡ 0) }
     ensures belongs { IsTrue (P.store store.old).disk.honest → OnOk result (IsLeafFor widths (P.store store.old) root key.now leaf.new) }
-    ensures unchanged { IsUnchanged (P.store store.old) (P.store store.new) }
-    ensures works { StoreWorks (P.store store.old) (P.store store.new) }
+    ensures read { PagesRead (P.store store.old) (P.store store.new) }
     ensures cause { IfErr result (MapReadCause widths root (P.store store.old) (P.store store.new)) }
 {
     match go_down(store, widths, root, key, leaf) {
@@ -107,7 +106,7 @@ fn place_in(widths: Widths, leaf: &[u8; 4096], key: &[u8]) -> Option<usize>
 }
 
 impl Reader {
-    ghost use Rattle.btree.specs.Readers.{HasEntry, IsReading, SameMap, found_here};
+    ghost use Rattle.btree.specs.Readers.{HasEntry, IsReading, ReadsOn, found_here};
 
     /// A reader of the map below this root.
     pub fn new(widths: Widths, root: u32) -> Reader
@@ -143,13 +142,11 @@ impl Reader {
     /// disk is not honest.
     pub fn find<P: Pages>(&mut self, store: &mut P, key: &[u8]) -> Result<bool, PageFault>
         requires { IsReading self.old (P.store store.old) }
-        ensures map { SameMap self.old self.new }
-        ensures reading { IsReading self.new (P.store store.new) }
+        ensures reader { ReadsOn self.old self.new (P.store store.new) }
         ensures at { IfOk result (λ found. IsTrue found → HasEntry self.new) }
         ensures found { IsTrue (P.store store.old).disk.honest → IfOk result (λ found. (pages : List ℕ) (es : List Item)
             → HoldsMap self.old.widths (P.store store.old) self.old.root pages es → found_here found self.new ≡ find_entry es key.now) }
-        ensures unchanged { IsUnchanged (P.store store.old) (P.store store.new) }
-        ensures works { StoreWorks (P.store store.old) (P.store store.new) }
+        ensures read { PagesRead (P.store store.old) (P.store store.new) }
         ensures cause { IfErr result (MapReadCause self.old.widths self.old.root (P.store store.old) (P.store store.new)) }
     {
         if self.root == 0 {

@@ -1,13 +1,13 @@
 //! The way down to the leaf where a key belongs.
 ghost use Rattle.std.specs.Prelude.{◌≡◌, ◌≢◌, IfOk, IfErr, IsTrue, slice_get};
 ghost use Rattle.std.specs.Option.{option_map};
-ghost use Rattle.page_store.specs.Store.{StoreWorks, IsUnchanged};
+ghost use Rattle.page_store.specs.Frames.{PagesRead};
 ghost use Rattle.btree.specs.Page.{items_in, IsPage};
 ghost use Rattle.btree.specs.declared.page.kind.Kind.TheVariants.{Inner};
 ghost use Rattle.btree.specs.Changes.{MapReadCause};
 ghost use Rattle.btree.specs.Answers.{found_bytes, filled_entry};
-ghost use Rattle.btree.specs.aid.Ahead.{ReachesNext};
-ghost use Rattle.btree.specs.aid.Steps.{IsStepDown};
+ghost use Rattle.btree.specs.lemmas.Ahead.{ReachesNext};
+ghost use Rattle.btree.specs.lemmas.Steps.{IsStepDown};
 
 use crate::find::ahead::{Ahead, ahead_at};
 use crate::find::entry::{Bytes, Entry, copied};
@@ -52,8 +52,7 @@ pub fn reach_next<P: Pages>(
     requires { root ≢ 0 }
     ensures reaches { IsTrue (P.store store.old).disk.honest
         → IfOk result (λ r. ReachesNext widths (P.store store.old) root key.now (filled_entry r.0 into.new) (found_bytes r.1)) }
-    ensures unchanged { IsUnchanged (P.store store.old) (P.store store.new) }
-    ensures works { StoreWorks (P.store store.old) (P.store store.new) }
+    ensures read { PagesRead (P.store store.old) (P.store store.new) }
     ensures cause { IfErr result (MapReadCause widths root (P.store store.old) (P.store store.new)) }
 {
     let mut page = root;

@@ -4,7 +4,7 @@ ghost use Rattle.std.specs.declared.cmp.Ordering.TheVariants.{Less};
 ghost use Rattle.page_store.specs.declared.holds.HoldPlace.{HoldPlace};
 ghost use Rattle.page_store.specs.declared.marks.Mark.TheVariants.{Committed, Waiting};
 ghost use Rattle.page_store.specs.Marks.{mark, IsNeeded};
-ghost use Rattle.page_store.specs.Spelling.{SpelledBy, Stands, StandsHeld, IsPrepared};
+ghost use Rattle.page_store.specs.Spelled.{SpelledBy, Stands, StandsHeld, IsPrepared};
 ghost use Rattle.page_store.specs.Store.{Store, reads, StoreWorks, IsHoldTaken};
 ghost use Rattle.btree.specs.Page.{Item, key_cmp};
 ghost use Rattle.btree.specs.declared.page.widths.Widths.{Widths};

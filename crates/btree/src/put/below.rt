@@ -1,11 +1,10 @@
 //! An entry is put below a page: down to its leaf the pages are read, and on the way back each is written anew.
-ghost use Rattle.std.specs.Prelude.{◌≡◌, ◌≢◌, ◌≤◌, ◌+◌, ◌*◌, ℕ, false, length, OnOk, IfOk, IfErr, IsTrue};
-ghost use Rattle.page_store.specs.Marks.{free_count};
-ghost use Rattle.page_store.specs.Store.{StoreWorks};
+ghost use Rattle.std.specs.Prelude.{◌≡◌, ◌≤◌, ◌+◌, ◌*◌, ℕ, length, OnOk, IfOk, IfErr, IsTrue};
+ghost use Rattle.page_store.specs.Frames.{PagesWritten, PagesRefused};
 ghost use Rattle.btree.specs.declared.page.kind.Kind.TheVariants.{Inner};
-ghost use Rattle.btree.specs.aid.Causes.{BelowCause};
-ghost use Rattle.btree.specs.aid.Growing.{IsGrowing, IsGrown};
-ghost use Rattle.btree.specs.aid.PutItems.{listed, AreWhole};
+ghost use Rattle.btree.specs.lemmas.Causes.{BelowCause};
+ghost use Rattle.btree.specs.lemmas.Growth.{IsGrowing, IsGrown};
+ghost use Rattle.btree.specs.lemmas.PutItems.{listed, AreFewTops};
 
 use crate::page::{Kind, Widths, item_at, kind_of, place_of};
 use crate::put::items::{FewItems, new_entry, places_of};
@@ -28,14 +27,9 @@ pub fn put_below<P: Pages>(
     ensures grown { IsTrue (P.store store.old).disk.honest → (d : ℕ) → IsGrowing widths d page (P.store store.old)
         → IfOk result (λ tops. IsGrown widths key.now value.now d page
         (listed widths Inner tops.count tops.bytes.items) (P.store store.old) (P.store store.new)) }
-    ensures some { IfOk result (λ tops. 1 ≤ tops.count) }
-    ensures few { IfOk result (λ tops. tops.count ≤ 2) }
-    ensures whole { IfOk result (λ tops. AreWhole widths Inner tops.count tops.bytes.items) }
-    ensures open { OnOk result ((P.store store.new).closed ≡ false) }
-    ensures works { StoreWorks (P.store store.old) (P.store store.new) }
-    ensures still { IfErr result (λ fault. fault ≢ PageFault.Disk → (P.store store.new).closed ≡ (P.store store.old).closed) }
-    ensures cause { IfErr result (BelowCause widths levels page (P.store store.old) (P.store store.new)) }
-    ensures takes { free_count (P.store store.old).marks ≤ free_count (P.store store.new).marks + (2 * levels + 2) }
+    ensures tops { IfOk result (λ tops. AreFewTops widths tops.count tops.bytes.items) }
+    ensures ok { OnOk result (PagesWritten (2 * levels + 2) (P.store store.old) (P.store store.new)) }
+    ensures err { IfErr result (PagesRefused PageFault.Disk (BelowCause widths levels page) (2 * levels + 2) (P.store store.old) (P.store store.new)) }
 {
     let mut bytes = [0; 4096];
     store.read_page(page, &mut bytes)?;

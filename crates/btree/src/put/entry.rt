@@ -1,9 +1,9 @@
 //! An entry is put on a leaf where the leaf stands in memory.
-ghost use Rattle.std.specs.Prelude.{◌≡◌, ◌≤◌, ◌+◌, ◌-◌, ◌*◌, length, IsTrue};
+ghost use Rattle.std.specs.Prelude.{◌≡◌, ◌≤◌, ◌+◌, ◌-◌, ◌*◌, false, length, IsTrue};
 ghost use Rattle.btree.specs.declared.page.kind.Kind.TheVariants.{Leaf};
 ghost use Rattle.btree.specs.declared.page.kind.TheConstants.{ROOM};
 ghost use Rattle.btree.specs.Page.{count_in, item_width, IsPage};
-ghost use Rattle.btree.specs.aid.EntryPut.{IsEntryPut};
+ghost use Rattle.btree.specs.lemmas.EntryPut.{IsEntryPut};
 
 use crate::page::{Kind, ROOM, Widths, count_of, kind_of};
 use crate::put::items::{new_entry, places_of, splice_in};
@@ -15,6 +15,8 @@ pub struct EntryPut<'a> {
     pub widths: Widths,
     pub key: &'a [u8],
     pub value: &'a [u8],
+    /// Only where the leaf does not have the key.
+    pub only_new: bool,
     ghost key_long: { length key.now ≡ widths.key },
     ghost value_long: { length value.now ≡ widths.value },
 }
@@ -30,8 +32,15 @@ fn has_room(widths: Widths, bytes: &[u8; 4096], from: usize, to: usize) -> bool
     total * (widths.key + widths.value) <= ROOM
 }
 
+/// Whether the leaf is to stay as it is: only new keys are put, and this one is there, from the one place up to the other.
+fn is_kept(only_new: bool, from: usize, to: usize) -> bool
+    ensures { result ≡ false → IsTrue only_new → to ≤ from }
+{
+    only_new && from < to
+}
+
 impl PageEdit for EntryPut<'_> {
-    ghost edits = { λ put was is. IsEntryPut put.widths put.key.now put.value.now was is };
+    ghost edits = { λ put was is. IsEntryPut put.widths put.key.now put.value.now put.only_new was is };
 
     fn apply(&self, page: &mut [u8; 4096]) -> Option<Span> {
         let Some(Kind::Leaf) = kind_of(self.widths, page) else {
@@ -39,6 +48,9 @@ impl PageEdit for EntryPut<'_> {
         };
         let (from, to) = places_of(self.widths, page, self.key);
         if from == 0 || !has_room(self.widths, page, from, to) {
+            return None;
+        }
+        if is_kept(self.only_new, from, to) {
             return None;
         }
         let entry = new_entry(self.widths, self.key, self.value);

@@ -1,17 +1,18 @@
 //! An entry is put on its leaf alone, where no page on the way to it has to change.
-ghost use Rattle.std.specs.Prelude.{◌≡◌, ◌≢◌, ◌≤◌, ◌<◌, ◌+◌, ◌-◌, ◌*◌, ◌∷◌, [], ℕ, false, length, Some, IfOk, IfErr, IfSome, IfNone, OnSome, IsTrue};
+ghost use Rattle.std.specs.Prelude.{◌≡◌, ◌≤◌, ◌<◌, ◌+◌, ◌-◌, ◌*◌, ◌∷◌, [], ℕ, false, length, None, Some, IfOk, IfErr, IfSome, IfNone, OnSome, IsTrue};
 ghost use Rattle.page_store.specs.declared.marks.Mark.TheVariants.{Fresh};
+ghost use Rattle.page_store.specs.Frames.{PagesWritten, PagesRefused};
 ghost use Rattle.page_store.specs.Marks.{mark as mark_of};
-ghost use Rattle.page_store.specs.Store.{reads, StoreWorks};
+ghost use Rattle.page_store.specs.Store.{reads};
 ghost use Rattle.btree.specs.declared.page.kind.Kind.{Kind};
 ghost use Rattle.btree.specs.declared.page.kind.Kind.TheVariants.{Leaf, Inner};
 ghost use Rattle.btree.specs.Page.{Item, child_of, count_in, item_width, items_in, IsPage};
 ghost use Rattle.btree.specs.declared.page.kind.TheConstants.{ROOM};
-ghost use Rattle.btree.specs.Entries.{Ascend, first_key, put_entry};
+ghost use Rattle.btree.specs.Entries.{Ascend, find_entry, first_key, put_entry};
 ghost use Rattle.btree.specs.Tree.{entries_below};
-ghost use Rattle.btree.specs.aid.Causes.{WriteCause};
-ghost use Rattle.btree.specs.aid.Growing.{AreWritten, IsGrowing, IsGrown};
-ghost use Rattle.btree.specs.aid.Spots.{LeadsTo, IsSpot};
+ghost use Rattle.btree.specs.lemmas.Causes.{WriteCause};
+ghost use Rattle.btree.specs.lemmas.Growth.{AreWritten, IsGrowing, IsGrown};
+ghost use Rattle.btree.specs.lemmas.Spots.{LeadsTo, IsSpot};
 
 use crate::page::{Kind, Widths, item_at, kind_of, place_of};
 use crate::put::entry::EntryPut;
@@ -65,14 +66,15 @@ fn spot_at<P: Pages>(store: &mut P, widths: Widths, page: u32, key: &[u8]) -> Op
     }
 }
 
-/// Puts the entry after the first one of this page, if it is a leaf that was used last and has room for it, and writes what changed. Answers
-/// whether it did.
+/// Puts the entry after the first one of this page, if it is a leaf that was used last and has room for it, and writes what changed; with
+/// `only_new` only where the key is not there. Answers whether it did.
 fn put_on<P: Pages>(
     store: &mut P,
     widths: Widths,
     page: u32,
     key: &[u8],
     value: &[u8],
+    only_new: bool,
 ) -> Result<bool, PageFault>
     requires key { length key.now ≡ widths.key }
     requires value { length value.now ≡ widths.value }
@@ -86,19 +88,25 @@ fn put_on<P: Pages>(
         (P.store store.old) (P.store store.new)) }
     ensures leaf { IsTrue (P.store store.old).disk.honest
         → IfOk result (λ done. IsTrue done → IsPage widths Leaf (reads (P.store store.old) page)) }
+    ensures new_key { IsTrue (P.store store.old).disk.honest → IfOk result (λ done. IsTrue done → IsTrue only_new
+        → Ascend (items_in widths Leaf (reads (P.store store.old) page))
+        → None ≡ find_entry (items_in widths Leaf (reads (P.store store.old) page)) key.now) }
     ensures same { IfOk result (λ done. done ≡ false → P.store store.new ≡ P.store store.old) }
-    ensures open { IfOk result (λ done. IsTrue done → (P.store store.new).closed ≡ false) }
-    ensures works { StoreWorks (P.store store.old) (P.store store.new) }
-    ensures still { IfErr result (λ fault. fault ≢ PageFault.Disk → (P.store store.new).closed ≡ (P.store store.old).closed) }
-    ensures cause { IfErr result (WriteCause (P.store store.old) (P.store store.new)) }
-    ensures marks { (P.store store.new).marks ≡ (P.store store.old).marks }
+    ensures ok { IfOk result (λ done. IsTrue done → PagesWritten 0 (P.store store.old) (P.store store.new)) }
+    ensures err { IfErr result (PagesRefused PageFault.Disk WriteCause 0 (P.store store.old) (P.store store.new)) }
 {
-    store.edit_page(page, &EntryPut { widths, key, value })
+    let put = EntryPut {
+        widths,
+        key,
+        value,
+        only_new,
+    };
+    store.edit_page(page, &put)
 }
 
 /// Puts this value at this key below this page, which has this many levels below it at most, where that changes the leaf alone: each page
-/// on the way is in memory and was handed out since the last commit, and the leaf has room, and entries before this one. Answers whether
-/// it did; if not, nothing has changed.
+/// on the way is in memory and was handed out since the last commit, and the leaf has room, and entries before this one; with `only_new`
+/// only where the key is not there. Answers whether it did; if not, nothing has changed.
 pub fn put_in_place<P: Pages>(
     store: &mut P,
     widths: Widths,
@@ -106,6 +114,7 @@ pub fn put_in_place<P: Pages>(
     levels: usize,
     key: &[u8],
     value: &[u8],
+    only_new: bool,
 ) -> Result<bool, PageFault>
     requires key { length key.now ≡ widths.key }
     requires value { length value.now ≡ widths.value }
@@ -113,12 +122,12 @@ pub fn put_in_place<P: Pages>(
         → child_of top ≡ page → first_key (entries_below widths (reads (P.store store.old)) d page) ≡ Some top.0
         → IfOk result (λ done. IsTrue done
         → IsGrown widths key.now value.now d page (top ∷ []) (P.store store.old) (P.store store.new)) }
+    ensures new_key { IsTrue (P.store store.old).disk.honest → (d : ℕ) → IsGrowing widths d page (P.store store.old)
+        → IfOk result (λ done. IsTrue done → IsTrue only_new
+        → None ≡ find_entry (entries_below widths (reads (P.store store.old)) d page) key.now) }
     ensures same { IfOk result (λ done. done ≡ false → P.store store.new ≡ P.store store.old) }
-    ensures open { IfOk result (λ done. IsTrue done → (P.store store.new).closed ≡ false) }
-    ensures works { StoreWorks (P.store store.old) (P.store store.new) }
-    ensures still { IfErr result (λ fault. fault ≢ PageFault.Disk → (P.store store.new).closed ≡ (P.store store.old).closed) }
-    ensures cause { IfErr result (WriteCause (P.store store.old) (P.store store.new)) }
-    ensures marks { (P.store store.new).marks ≡ (P.store store.old).marks }
+    ensures ok { IfOk result (λ done. IsTrue done → PagesWritten 0 (P.store store.old) (P.store store.new)) }
+    ensures err { IfErr result (PagesRefused PageFault.Disk WriteCause 0 (P.store store.old) (P.store store.new)) }
 {
     let fresh = store.is_fresh(page);
     if levels == 0 || !fresh {
@@ -126,7 +135,9 @@ pub fn put_in_place<P: Pages>(
     }
     match spot_at(store, widths, page, key) {
         None => Ok(false),
-        Some(Spot::Leaf) => put_on(store, widths, page, key, value),
-        Some(Spot::Below(child)) => put_in_place(store, widths, child, levels - 1, key, value),
+        Some(Spot::Leaf) => put_on(store, widths, page, key, value, only_new),
+        Some(Spot::Below(child)) => {
+            put_in_place(store, widths, child, levels - 1, key, value, only_new)
+        }
     }
 }

@@ -1,14 +1,14 @@
 //! Items as bytes: those of a page, and those that lead to one page or two.
 ghost use Rattle.std.specs.Prelude.{◌≡◌, ◌≤◌, ◌<◌, ◌+◌, ◌-◌, ◌*◌, ◌/◌, ◌↔◌, ◌++◌, ◌∷◌, [], List, ℕ};
-ghost use Rattle.std.specs.Prelude.{length, take, drop, slice_get, Some, IsTrue};
+ghost use Rattle.std.specs.Prelude.{length, take, drop, slice_get, None, Some, IsTrue};
 ghost use Rattle.std.specs.List.{copy_within};
 ghost use Rattle.arrayvec.specs.ArrayVec.{array_vec_len};
 ghost use Rattle.byteorder.specs.Endian.{big_bytes};
 ghost use Rattle.page_store.specs.Page.{StaysElsewhere};
 ghost use Rattle.btree.specs.declared.page.kind.Kind.TheVariants.{Leaf, Inner};
 ghost use Rattle.btree.specs.Page.{Item, behind_of, child_of, count_in, item_width, items_in, items_of, least_of, IsPage};
-ghost use Rattle.btree.specs.Entries.{Ascend, put_entry};
-ghost use Rattle.btree.specs.aid.PutItems.{listed, AreWhole, IsCut};
+ghost use Rattle.btree.specs.Entries.{Ascend, find_entry, put_entry};
+ghost use Rattle.btree.specs.lemmas.PutItems.{listed, AreWhole, CutsAt, IsCut};
 ghost use Rattle.btree.specs.declared.page.kind.TheConstants.{ROOM};
 
 use crate::page::{HEAD, Kind, Widths, behind_of, count_of, item_at, place_of, set_count};
@@ -110,8 +110,7 @@ pub fn spliced(
     requires one_more { from + count ≤ to + 1 }
     requires whole { length bytes.now ≡ count * item_width widths kind }
     ensures count { result.count ≡ from + count + (count_in page.now - to) }
-    ensures end { to ≡ count_in page.now → result.cut ≡ result.count - least_of kind }
-    ensures half { to < count_in page.now → result.cut ≡ result.count / 2 }
+    ensures cuts { CutsAt kind result.count (count_in page.now - to) result.cut }
     ensures cut { ROOM < result.count * item_width widths kind → IsCut widths kind result.count result.cut }
     ensures whole { AreWhole widths kind result.count result.bytes.items }
     ensures listed { listed widths kind result.count result.bytes.items
@@ -263,6 +262,7 @@ pub fn places_of(widths: Widths, page: &[u8; 4096], key: &[u8]) -> (usize, usize
     ensures put { Ascend (items_in widths Leaf page.now) → (value : List ℕ)
         → take result.0 (items_in widths Leaf page.now) ++ (key.now, value) ∷ drop result.1 (items_in widths Leaf page.now)
         ≡ put_entry (items_in widths Leaf page.now) key.now value }
+    ensures new_key { result.0 ≡ result.1 → Ascend (items_in widths Leaf page.now) → None ≡ find_entry (items_in widths Leaf page.now) key.now }
 {
     let to = place_of(widths, Kind::Leaf, page, key);
     if has_key(widths, page, to, key) {

@@ -1,14 +1,15 @@
 //! An entry is put into a map, which may get a new root.
-ghost use Rattle.std.specs.Prelude.{◌≡◌, ◌≢◌, ◌≤◌, ◌<◌, ◌+◌, ◌*◌, [], ◌∷◌, ℕ, false, List, length};
+ghost use Rattle.std.specs.Prelude.{◌≡◌, ◌≢◌, ◌≤◌, ◌+◌, ◌*◌, ℕ, List, length};
 ghost use Rattle.std.specs.Prelude.{OnOk, IfOk, IfErr, IsTrue};
 ghost use Rattle.page_store.specs.Marks.{free_count};
-ghost use Rattle.page_store.specs.Store.{reads, StoreWorks};
-ghost use Rattle.btree.specs.Page.{Item, least_of, items_in, IsPage};
+ghost use Rattle.page_store.specs.Frames.{PagesWritten, PagesRefused};
+ghost use Rattle.btree.specs.Page.{Item, least_of};
 ghost use Rattle.btree.specs.Changes.{HoldsMap, AreHeld, TakePlace, MapPutCause};
 ghost use Rattle.btree.specs.Entries.{put_entry};
 ghost use Rattle.btree.specs.declared.map.limits.TheConstants.{MAX_LEVELS};
-ghost use Rattle.btree.specs.aid.Causes.{WriteCause};
-ghost use Rattle.btree.specs.aid.PutItems.{listed, AreWhole};
+ghost use Rattle.btree.specs.lemmas.Causes.{WriteCause};
+ghost use Rattle.btree.specs.lemmas.Growth.{IsOnNewPage};
+ghost use Rattle.btree.specs.lemmas.PutItems.{listed, AreWhole};
 
 use crate::map::MAX_LEVELS;
 use crate::page::{Kind, Widths};
@@ -19,7 +20,7 @@ use crate::put::place::write_on;
 use page_store::{PageFault, Pages};
 
 /// How many levels a map has at most below the page of its root.
-const LEVELS: usize = MAX_LEVELS - 1;
+pub(crate) const LEVELS: usize = MAX_LEVELS - 1;
 
 /// Puts this value at this key, and answers the new root. The first entry of a map takes one page. `Damaged` where below the root is
 /// no map, `TableFull` where a page is needed and none is free. After an error the store goes back by `discard`.
@@ -38,20 +39,17 @@ pub fn put<P: Pages>(
         → AreHeld (P.store store.old).marks pages
         → IfOk result (λ next. (others : List ℕ) × HoldsMap widths (P.store store.new) next others (put_entry es key.now value.now)
         × TakePlace pages others (P.store store.old) (P.store store.new)) }
-    ensures open { OnOk result ((P.store store.new).closed ≡ false) }
-    ensures works { StoreWorks (P.store store.old) (P.store store.new) }
-    ensures still { IfErr result (λ fault. fault ≢ PageFault.Disk → (P.store store.new).closed ≡ (P.store store.old).closed) }
-    ensures cause { IfErr result (MapPutCause widths root (P.store store.old) (P.store store.new)) }
+    ensures ok { OnOk result (PagesWritten (2 * MAX_LEVELS + 1) (P.store store.old) (P.store store.new)) }
+    ensures err { IfErr result (PagesRefused PageFault.Disk (MapPutCause widths root) (2 * MAX_LEVELS + 1)
+        (P.store store.old) (P.store store.new)) }
     ensures first { root ≡ 0 → OnOk result (free_count (P.store store.new).marks + 1 ≡ free_count (P.store store.old).marks) }
     ensures refused { root ≡ 0 → IfErr result (λ fault. fault ≡ PageFault.TableFull → P.store store.new ≡ P.store store.old) }
-    ensures takes { free_count (P.store store.old).marks
-        ≤ free_count (P.store store.new).marks + (2 * MAX_LEVELS + 1) }
 {
     if root == 0 {
         let entry = new_entry(widths, key, value);
         return on_new_page(store, widths, Kind::Leaf, &entry);
     }
-    let done = put_in_place(store, widths, root, LEVELS, key, value)?;
+    let done = put_in_place(store, widths, root, LEVELS, key, value, false)?;
     if done {
         return Ok(root);
     }
@@ -74,12 +72,9 @@ fn put_anew<P: Pages>(
         → AreHeld (P.store store.old).marks pages
         → IfOk result (λ next. (others : List ℕ) × HoldsMap widths (P.store store.new) next others (put_entry es key.now value.now)
         × TakePlace pages others (P.store store.old) (P.store store.new)) }
-    ensures open { OnOk result ((P.store store.new).closed ≡ false) }
-    ensures works { StoreWorks (P.store store.old) (P.store store.new) }
-    ensures still { IfErr result (λ fault. fault ≢ PageFault.Disk → (P.store store.new).closed ≡ (P.store store.old).closed) }
-    ensures cause { IfErr result (MapPutCause widths root (P.store store.old) (P.store store.new)) }
-    ensures takes { free_count (P.store store.old).marks
-        ≤ free_count (P.store store.new).marks + (2 * MAX_LEVELS + 1) }
+    ensures ok { OnOk result (PagesWritten (2 * MAX_LEVELS + 1) (P.store store.old) (P.store store.new)) }
+    ensures err { IfErr result (PagesRefused PageFault.Disk (MapPutCause widths root) (2 * MAX_LEVELS + 1)
+        (P.store store.old) (P.store store.new)) }
 {
     let tops = put_below(store, widths, root, LEVELS, key, value)?;
     if tops.count == 1 {
@@ -99,19 +94,11 @@ fn on_new_page<P: Pages>(
     requires enough { least_of kind ≤ items.now.count }
     requires few { items.now.count ≤ 2 }
     requires whole { AreWhole widths kind items.now.count items.now.bytes.items }
-    ensures is_page { IfOk result (λ page. 1 ≤ page) }
-    ensures there { IfOk result (λ page. page < length (P.store store.old).marks) }
-    ensures place { IfOk result (λ page. TakePlace [] (page ∷ []) (P.store store.old) (P.store store.new)) }
-    ensures page { IsTrue (P.store store.old).disk.honest → IfOk result (λ page. IsPage widths kind (reads (P.store store.new) page)) }
-    ensures items { IsTrue (P.store store.old).disk.honest → IfOk result (λ page.
-        items_in widths kind (reads (P.store store.new) page) ≡ listed widths kind items.now.count items.now.bytes.items) }
-    ensures open { OnOk result ((P.store store.new).closed ≡ false) }
-    ensures works { StoreWorks (P.store store.old) (P.store store.new) }
-    ensures still { IfErr result (λ fault. fault ≢ PageFault.Disk → (P.store store.new).closed ≡ (P.store store.old).closed) }
-    ensures cause { IfErr result (WriteCause (P.store store.old) (P.store store.new)) }
+    ensures ok { IfOk result (IsOnNewPage widths kind (listed widths kind items.now.count items.now.bytes.items)
+        (P.store store.old) (P.store store.new)) }
+    ensures err { IfErr result (PagesRefused PageFault.Disk WriteCause 1 (P.store store.old) (P.store store.new)) }
     ensures first { OnOk result (free_count (P.store store.new).marks + 1 ≡ free_count (P.store store.old).marks) }
     ensures refused { IfErr result (λ fault. fault ≡ PageFault.TableFull → P.store store.new ≡ P.store store.old) }
-    ensures takes { free_count (P.store store.old).marks ≤ free_count (P.store store.new).marks + 1 }
 {
     let page = store.new_page()?;
     write_on(store, widths, kind, page, items.count, &items.bytes)?;

@@ -1,12 +1,12 @@
 //! The items of a page are written, on one page or on two.
-ghost use Rattle.std.specs.Prelude.{◌≡◌, ◌≢◌, ◌≤◌, ◌<◌, ◌+◌, ◌-◌, ◌*◌, ◌++◌, false, length, take, drop, OnOk, IfOk, IfErr, IsTrue};
-ghost use Rattle.page_store.specs.Marks.{free_count};
-ghost use Rattle.page_store.specs.Store.{reads, StoreWorks};
+ghost use Rattle.std.specs.Prelude.{◌≡◌, ◌≤◌, ◌<◌, ◌+◌, ◌-◌, ◌*◌, ◌++◌, false, length, take, drop, OnOk, IfOk, IfErr, IsTrue};
+ghost use Rattle.page_store.specs.Frames.{PagesWritten, PagesRefused};
+ghost use Rattle.page_store.specs.Store.{reads};
 ghost use Rattle.btree.specs.declared.page.kind.Kind.TheVariants.{Inner};
 ghost use Rattle.btree.specs.Page.{count_in, item_width, items_in, least_of, IsPage};
-ghost use Rattle.btree.specs.aid.Causes.{WriteCause};
-ghost use Rattle.btree.specs.aid.Growing.{AreWritten};
-ghost use Rattle.btree.specs.aid.PutItems.{listed, AreWhole, IsCut};
+ghost use Rattle.btree.specs.lemmas.Causes.{WriteCause};
+ghost use Rattle.btree.specs.lemmas.Growth.{AreWritten};
+ghost use Rattle.btree.specs.lemmas.PutItems.{listed, AreFewTops, AreWhole, IsCut};
 ghost use Rattle.btree.specs.declared.page.kind.TheConstants.{ROOM};
 
 use crate::page::{HEAD, Kind, ROOM, Widths, behind_of, count_of};
@@ -33,11 +33,8 @@ fn write_two<P: Pages>(
         (listed widths Inner tops.count tops.bytes.items) (P.store store.old) (P.store store.new)) }
     ensures two { IfOk result (λ tops. tops.count ≡ 2) }
     ensures whole { IfOk result (λ tops. AreWhole widths Inner tops.count tops.bytes.items) }
-    ensures open { OnOk result ((P.store store.new).closed ≡ false) }
-    ensures works { StoreWorks (P.store store.old) (P.store store.new) }
-    ensures still { IfErr result (λ fault. fault ≢ PageFault.Disk → (P.store store.new).closed ≡ (P.store store.old).closed) }
-    ensures cause { IfErr result (WriteCause (P.store store.old) (P.store store.new)) }
-    ensures takes { free_count (P.store store.old).marks ≤ free_count (P.store store.new).marks + 2 }
+    ensures ok { OnOk result (PagesWritten 2 (P.store store.old) (P.store store.new)) }
+    ensures err { IfErr result (PagesRefused PageFault.Disk WriteCause 2 (P.store store.old) (P.store store.new)) }
 {
     let first = renewed(store, page)?;
     let second = store.new_page()?;
@@ -80,11 +77,8 @@ fn write_split<P: Pages>(
         (listed widths Inner tops.count tops.bytes.items) (P.store store.old) (P.store store.new)) }
     ensures two { IfOk result (λ tops. tops.count ≡ 2) }
     ensures whole { IfOk result (λ tops. AreWhole widths Inner tops.count tops.bytes.items) }
-    ensures open { OnOk result ((P.store store.new).closed ≡ false) }
-    ensures works { StoreWorks (P.store store.old) (P.store store.new) }
-    ensures still { IfErr result (λ fault. fault ≢ PageFault.Disk → (P.store store.new).closed ≡ (P.store store.old).closed) }
-    ensures cause { IfErr result (WriteCause (P.store store.old) (P.store store.new)) }
-    ensures takes { free_count (P.store store.old).marks ≤ free_count (P.store store.new).marks + 2 }
+    ensures ok { OnOk result (PagesWritten 2 (P.store store.old) (P.store store.new)) }
+    ensures err { IfErr result (PagesRefused PageFault.Disk WriteCause 2 (P.store store.old) (P.store store.new)) }
 {
     let all = spliced(widths, kind, bytes, from, to, items.count, &items.bytes);
     write_two(store, widths, kind, page, &all)
@@ -115,14 +109,9 @@ pub fn write_spliced<P: Pages>(
         (take from (items_in widths kind bytes.old)
         ++ (listed widths kind items.now.count items.now.bytes.items ++ drop to (items_in widths kind bytes.old)))
         (listed widths Inner tops.count tops.bytes.items) (P.store store.old) (P.store store.new)) }
-    ensures some { IfOk result (λ tops. 1 ≤ tops.count) }
-    ensures few { IfOk result (λ tops. tops.count ≤ 2) }
-    ensures whole { IfOk result (λ tops. AreWhole widths Inner tops.count tops.bytes.items) }
-    ensures open { OnOk result ((P.store store.new).closed ≡ false) }
-    ensures works { StoreWorks (P.store store.old) (P.store store.new) }
-    ensures still { IfErr result (λ fault. fault ≢ PageFault.Disk → (P.store store.new).closed ≡ (P.store store.old).closed) }
-    ensures cause { IfErr result (WriteCause (P.store store.old) (P.store store.new)) }
-    ensures takes { free_count (P.store store.old).marks ≤ free_count (P.store store.new).marks + 2 }
+    ensures tops { IfOk result (λ tops. AreFewTops widths tops.count tops.bytes.items) }
+    ensures ok { OnOk result (PagesWritten 2 (P.store store.old) (P.store store.new)) }
+    ensures err { IfErr result (PagesRefused PageFault.Disk WriteCause 2 (P.store store.old) (P.store store.new)) }
 {
     let total = from + items.count + (count_of(bytes) - to);
     if total * (widths.key + behind_of(widths, kind)) > ROOM {
@@ -158,14 +147,9 @@ pub fn write_led<P: Pages>(
         (take place (items_in widths Inner bytes.old)
         ++ (listed widths Inner items.now.count items.now.bytes.items ++ drop (place + 1) (items_in widths Inner bytes.old)))
         (listed widths Inner tops.count tops.bytes.items) (P.store store.old) (P.store store.new)) }
-    ensures some { IfOk result (λ tops. 1 ≤ tops.count) }
-    ensures few { IfOk result (λ tops. tops.count ≤ 2) }
-    ensures whole { IfOk result (λ tops. AreWhole widths Inner tops.count tops.bytes.items) }
-    ensures open { OnOk result ((P.store store.new).closed ≡ false) }
-    ensures works { StoreWorks (P.store store.old) (P.store store.new) }
-    ensures still { IfErr result (λ fault. fault ≢ PageFault.Disk → (P.store store.new).closed ≡ (P.store store.old).closed) }
-    ensures cause { IfErr result (WriteCause (P.store store.old) (P.store store.new)) }
-    ensures takes { free_count (P.store store.old).marks ≤ free_count (P.store store.new).marks + 2 }
+    ensures tops { IfOk result (λ tops. AreFewTops widths tops.count tops.bytes.items) }
+    ensures ok { OnOk result (PagesWritten 2 (P.store store.old) (P.store store.new)) }
+    ensures err { IfErr result (PagesRefused PageFault.Disk WriteCause 2 (P.store store.old) (P.store store.new)) }
 {
     let in_memory = store.bytes_of(page).is_some();
     if in_memory && store.is_fresh(page) && has_item(widths, bytes, place, items) {

@@ -1,8 +1,8 @@
 //! The tree below a page is walked.
 ghost use Rattle.std.specs.Prelude.{IfOk, IfErr, IsTrue};
 ghost use Rattle.page_store.specs.Store.{reads};
-ghost use Rattle.btree.specs.aid.Passing.{IsWalked, WalkBelowCause};
-ghost use Rattle.page_store.specs.aid.Marking.{OnlyMarks};
+ghost use Rattle.btree.specs.lemmas.WalkedPages.{IsWalked, WalkBelowCause};
+ghost use Rattle.page_store.specs.Frames.{OnlyMarks};
 
 use crate::find::Bytes;
 use crate::page::{Kind, Widths, count_of, item_at};

@@ -1,6 +1,7 @@
 //! How deep a tree is.
 ghost use Rattle.std.specs.Prelude.{◌≡◌, ◌≢◌, ◌<◌, ℕ, IfOk, IfErr, IsTrue};
-ghost use Rattle.page_store.specs.Store.{reads, StoreWorks, IsUnchanged};
+ghost use Rattle.page_store.specs.Frames.{PagesRead};
+ghost use Rattle.page_store.specs.Store.{reads};
 ghost use Rattle.btree.specs.Changes.{MapReadCause};
 ghost use Rattle.btree.specs.Tree.{IsTree};
 
@@ -15,8 +16,7 @@ pub fn depth_of<P: Pages>(store: &mut P, widths: Widths, root: u32) -> Result<us
     ensures shallow { IfOk result (λ depth. depth < MAX_LEVELS) }
     ensures depth { IsTrue (P.store store.old).disk.honest → IfOk result (λ depth.
         (d : ℕ) → IsTree widths (reads (P.store store.old)) d root → d ≡ depth) }
-    ensures unchanged { IsUnchanged (P.store store.old) (P.store store.new) }
-    ensures works { StoreWorks (P.store store.old) (P.store store.new) }
+    ensures read { PagesRead (P.store store.old) (P.store store.new) }
     ensures cause { IfErr result (MapReadCause widths root (P.store store.old) (P.store store.new)) }
 {
     let mut bytes = [0; 4096];

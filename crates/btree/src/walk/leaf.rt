@@ -3,7 +3,7 @@ ghost use Rattle.std.specs.Prelude.{◌≡◌, ◌≤◌, ◌↔◌, ◌∷◌, 
 ghost use Rattle.btree.specs.declared.page.kind.Kind.TheVariants.{Leaf};
 ghost use Rattle.btree.specs.Page.{items_in, IsPage};
 ghost use Rattle.btree.specs.Entries.{first_key as first_key_of};
-ghost use Rattle.btree.specs.aid.Telling.{IsTold, TellCause};
+ghost use Rattle.btree.specs.lemmas.Visits.{IsTold, TellCause};
 
 use crate::find::{Bytes, copied};
 use crate::page::{Kind, Widths, count_of, item_at};

@@ -1,12 +1,9 @@
 //! The map below a root is walked.
-ghost use Rattle.std.specs.Prelude.{◌≡◌, ◌⊎◌, ◌++◌, ℕ, List, OnOk, IfErr, IsTrue};
-ghost use Rattle.sector_disk.specs.Disk.{LeavesOnly, MayLeave};
-ghost use Rattle.page_store.specs.declared.marks.Mark.TheVariants.{Committed};
-ghost use Rattle.page_store.specs.Marks.{mark as mark_of};
-ghost use Rattle.page_store.specs.Store.{StoreWorks};
+ghost use Rattle.std.specs.Prelude.{◌++◌, ℕ, List, OnOk, IfErr, IsTrue};
+ghost use Rattle.page_store.specs.Frames.{OnlyMarks};
 ghost use Rattle.btree.specs.Page.{Item};
 ghost use Rattle.btree.specs.Changes.{HoldsMap};
-ghost use Rattle.btree.specs.Walking.{MarksPages, WalkCause};
+ghost use Rattle.btree.specs.Walks.{MarksPages, WalkCause};
 
 use crate::find::Bytes;
 use crate::page::Widths;
@@ -28,13 +25,7 @@ pub fn walk<P: Pages, V: Visitor>(
     ensures map { IsTrue (P.store store.old).disk.honest → OnOk result ((pages : List ℕ) × (es : List Item)
         × HoldsMap widths (P.store store.old) root pages es × MarksPages pages (P.store store.old) (P.store store.new)
         × ((before : List Item) → V.told visitor.old before → V.told visitor.new (before ++ es))) }
-    ensures others { (p : ℕ) → (mark_of (P.store store.new).marks p ≡ mark_of (P.store store.old).marks p)
-        ⊎ (mark_of (P.store store.new).marks p ≡ Committed) }
-    ensures shown { IsTrue (P.store store.old).disk.honest → (P.store store.new).disk.now ≡ (P.store store.old).disk.now }
-    ensures leaves { IsTrue (P.store store.old).disk.honest
-        → LeavesOnly (P.store store.old).disk (P.store store.new).disk (MayLeave (P.store store.old).disk.now) }
-    ensures closed { (P.store store.new).closed ≡ (P.store store.old).closed }
-    ensures works { StoreWorks (P.store store.old) (P.store store.new) }
+    ensures only { OnlyMarks (P.store store.old) (P.store store.new) }
     ensures cause { IfErr result (WalkCause widths root (V.refuses visitor.new) (V.told visitor.old)
         (P.store store.old) (P.store store.new)) }
 {

@@ -1,7 +1,7 @@
 //! One page of a tree is marked and read.
 ghost use Rattle.std.specs.Prelude.{OnOk, IfErr};
-ghost use Rattle.btree.specs.aid.PageTaking.{IsPageTaken, TakeCause};
-ghost use Rattle.page_store.specs.aid.Marking.{OnlyMarks};
+ghost use Rattle.btree.specs.lemmas.MarkedReads.{IsPageTaken, TakeCause};
+ghost use Rattle.page_store.specs.Frames.{OnlyMarks};
 
 use crate::page::{Kind, Widths, kind_of};
 use page_store::{PageFault, Pages};

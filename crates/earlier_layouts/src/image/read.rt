@@ -3,7 +3,7 @@ ghost use Rattle.std.specs.Prelude.{◌≡◌, ◌+◌, ℕ, List, length, take,
 ghost use Rattle.retrograde.specs.Stored.{Stored, IsTable};
 ghost use Rattle.game_file.specs.Numbers.{AreWithinLimits};
 ghost use Rattle.earlier_layouts.specs.Length.{bytes_in};
-ghost use Rattle.earlier_layouts.specs.aid.ImageReading.{IsFirstEntry};
+ghost use Rattle.earlier_layouts.specs.lemmas.ImageReads.{IsFirstEntry};
 ghost use Rattle.earlier_layouts.specs.Spelled.{SpellsTable};
 ghost use Rattle.earlier_layouts.specs.declared.image.fault.BytesFault.TheVariants.{Damaged};
 ghost use Rattle.table.specs.InMemory.{stored_in};

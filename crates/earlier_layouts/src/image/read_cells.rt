@@ -3,7 +3,7 @@ ghost use Rattle.std.specs.Prelude.{◌≡◌, ◌+◌, ◌-◌, ◌*◌, ◌^�
 ghost use Rattle.retrograde.specs.declared.records.Record.{Record};
 ghost use Rattle.retrograde.specs.Stored.{Stored, IsTable, loaded};
 ghost use Rattle.game_file.specs.Bytes.{IsCell, IsRecord};
-ghost use Rattle.earlier_layouts.specs.aid.ImageReading.{AreCells, KeepsRest, IsFirstEntry, AddsCell};
+ghost use Rattle.earlier_layouts.specs.lemmas.ImageReads.{AreCells, KeepsRest, IsFirstEntry, AddsCell};
 ghost use Rattle.earlier_layouts.specs.declared.image.fault.BytesFault.TheVariants.{Damaged};
 ghost use Rattle.table.specs.InMemory.{stored_in};
 ghost use Rattle.position_pack.specs.declared.limits.TheConstants.{MAX_PACKED};

@@ -5,7 +5,7 @@ ghost use Rattle.retrograde.specs.Changes.{with_edge};
 ghost use Rattle.table.specs.Memory.{edge_cmp};
 ghost use Rattle.game_file.specs.Bytes.{IsEdge};
 ghost use Rattle.earlier_layouts.specs.Spelled.{AreSpelled};
-ghost use Rattle.earlier_layouts.specs.aid.ImageReading.{AreEdges, ChangesEdges, AddsOrder, HasNoRest, IsPast};
+ghost use Rattle.earlier_layouts.specs.lemmas.ImageReads.{AreEdges, ChangesEdges, AddsOrder, HasNoRest, IsPast};
 ghost use Rattle.earlier_layouts.specs.declared.image.fault.BytesFault.TheVariants.{Damaged};
 
 use crate::image::BytesFault;

@@ -3,7 +3,7 @@
 ghost use Rattle.std.specs.Prelude.{◌≡◌, ◌++◌, ◌<◌, ◌≤◌, ◌+◌, IfOk};
 ghost use Rattle.std.specs.List.{flat_map};
 ghost use Rattle.rbg_read.specs.Listed.{place_of, behind_byte, one_line};
-ghost use Rattle.rbg_read.specs.aid.Lines.{with_gap};
+ghost use Rattle.rbg_read.specs.lemmas.Lines.{with_gap};
 
 use crate::numbered::lexemes::Lexeme;
 use std::alloc::{AllocError, Global};

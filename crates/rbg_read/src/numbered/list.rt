@@ -4,12 +4,12 @@ ghost use Rattle.std.specs.Prelude.{◌≡◌, ◌≢◌, ◌<◌, ◌≤◌, �
 ghost use Rattle.rbg_game.specs.Games.{Game as TextbookGame};
 ghost use Rattle.rbg_text.specs.Syntax.{Section};
 ghost use Rattle.rbg_text.specs.Syntax as grammar;
-ghost use Rattle.rbg_read.specs.Reading.{Reads, Fault, Parses};
+ghost use Rattle.rbg_read.specs.Reads.{Reads, Fault, Parses};
 ghost use Rattle.rbg_read.specs.Listed.{ListsActions, AreActionLines, head_of};
 ghost use Rattle.rbg_read.specs.Placed.{Stand};
 ghost use Rattle.rbg_read.specs.Tokens.{tokens_of, cut_of};
 ghost use Rattle.rbg_read.specs.Written.{Spot, spots_of, cut_at};
-ghost use Rattle.rbg_read.specs.aid.Lines.{line_of, IsLineOfStretch};
+ghost use Rattle.rbg_read.specs.lemmas.Lines.{line_of, IsLineOfStretch};
 
 use crate::fault::GameFault;
 use crate::numbered::lexemes::{Lexeme, lexemes};

@@ -6,8 +6,8 @@ ghost use Rattle.rbg_text.specs.Syntax.{Section};
 ghost use Rattle.rbg_text.specs.Syntax as grammar;
 ghost use Rattle.rbg_read.specs.Tokens.{tokens_of, tokens_from, cut_of};
 ghost use Rattle.rbg_read.specs.Written.{spots_of, cut_at};
-ghost use Rattle.rbg_read.specs.aid.Walk as walk;
-ghost use Rattle.rbg_read.specs.aid.Walk.{Ends, Leads, within_at, depth_of, as_list};
+ghost use Rattle.rbg_read.specs.lemmas.Walk as walk;
+ghost use Rattle.rbg_read.specs.lemmas.Walk.{Ends, Leads, within_at, depth_of, as_list};
 
 use crate::numbered::lexemes::Lexeme;
 use rbg_text::token::{Sign, Token};

@@ -1,6 +1,6 @@
 use Rattle.std.proofs.Common.{◌≡◌, length}
 use Rattle.retrograde.specs.Stored.{IsTable}
-use Rattle.audit.specs.aid.Edges.{AreArrivals}
+use Rattle.audit.specs.lemmas.Edges.{AreArrivals}
 use Rattle.table.specs.Frames.{IsRead}
 use Rattle.audit.proofs.arrivals.arrivals.Given as goal
 

@@ -1,11 +1,11 @@
-use Rattle.audit.proofs.Passing.{passed_on}
+use Rattle.table.proofs.Exits.{passed_on}
 use Rattle.std.proofs.Common.{◌≡◌, ◌∙◌, subst, ℕ, List, true, arith, refl}
 use Rattle.std.proofs.lemmas.List.{length-map}
 use Rattle.arrayvec.specs.ArrayVec.{ArrayVec}
 use Rattle.retrograde.specs.View.{HasNumber}
 use Rattle.retrograde.specs.Stored.{Stored, IsTable, view_of}
 use Rattle.table.specs.Memory.{bytes_of_each}
-use Rattle.audit.specs.aid.Edges.{CountsIf}
+use Rattle.audit.specs.lemmas.Edges.{CountsIf}
 use Rattle.audit.proofs.ArrivalLemmas.{counted_none, counted_next, counted_all}
 use Rattle.audit.proofs.Lists.{item_at}
 use Rattle.table.proofs.Frames.{unread, read_then}
@@ -27,12 +27,14 @@ loop-position-preserved g c = record {
       let h = c.loop-position.invariant.read.honest.0 honest in
       let stored = g.T.Table.stored c.args.table.now in
       let y = c.position-item.result.items in
-      let y_at = item_at (λ (p : ArrayVec ℕ). p.items) c.args.positions.now c.loop-position.position-index c.position-item.result c.loop-position-test.true c.position-item.is in
+      let y_at = item_at (λ (p : ArrayVec ℕ).
+      p.items) c.args.positions.now c.loop-position.position-index c.position-item.result c.loop-position-test.true c.position-item.is in
       let now = subst (λ (t : Stored (List ℕ)). IsTable t → (j : ℕ) (z : List ℕ) → HasNumber (view_of t) j z
       → CountsIf ((z ≡ y) × (t.has_edge j c.args.from ≡ true)) c.loop-position.arrivals.items c.count_one.new.arrivals.items j)
       (c.loop-position.invariant.read.same honest) (c.in_ok-count_one.ensures.counted h) in
       counted_next (bytes_of_each c.args.positions.now) x (stored.has_edge i c.args.from ≡ true) c.args.arrivals.now.items i c.loop-position.position-index y
-      c.loop-position.arrivals.items c.count_one.new.arrivals.items differ y_at (c.loop-position.invariant.counted honest table differ i x at) (now table i x at);
+      c.loop-position.arrivals.items c.count_one.new.arrivals.items differ y_at
+      (c.loop-position.invariant.counted honest table differ i x at) (now table i x at);
 }
 
 pub returns-clause-counted : goal.returns-clause-counted
@@ -43,12 +45,7 @@ returns-clause-counted g c = λ honest table differ i x at.
     (c.loop-position.invariant.counted honest table differ i x at)
 
 pub returns-in_err-count_one-clause-read : goal.returns-in_err-count_one-clause-read
-returns-in_err-count_one-clause-read g c =
-    read_then g.met.T.Table.stays_then c.loop-position.invariant.read c.in_err-count_one.ensures.read
-
-pub returns-in_err-count_one-clause-room : goal.returns-in_err-count_one-clause-room
-returns-in_err-count_one-clause-room g c =
-    passed_on _ c.from_residual.result _ c.from_residual.ensures c.in_err-count_one.ensures.room
+returns-in_err-count_one-clause-read g c = read_then g.met.T.Table.stays_then c.loop-position.invariant.read c.in_err-count_one.ensures.read
 
 pub returns-in_err-count_one-clause-fault : goal.returns-in_err-count_one-clause-fault
 returns-in_err-count_one-clause-fault g c =

@@ -3,7 +3,7 @@ use Rattle.std.specs.Prelude.{AllPairs, ◌≢◌}
 use Rattle.retrograde.specs.View.{HasNumber}
 use Rattle.retrograde.specs.Stored.{IsTable, view_of}
 use Rattle.table.specs.Memory.{bytes_of_each}
-use Rattle.audit.specs.aid.Edges.{CountsIf}
+use Rattle.audit.specs.lemmas.Edges.{CountsIf}
 use Rattle.audit.proofs.ArrivalLemmas.{IsBefore}
 use Rattle.table.specs.Frames.{IsRead}
 use Rattle.audit.proofs.arrivals.count_each.Given as goal

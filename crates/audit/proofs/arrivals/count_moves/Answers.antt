@@ -1,11 +1,12 @@
 use Rattle.legal_moves.specs.declared.fault.MoveFault.{MoveFault}
-use Rattle.audit.proofs.Passing.{passed_on, not_this, ok_differs, table_narrow, search_wide, search_of_none}
+use Rattle.table.proofs.Exits.{passed_on}
+use Rattle.audit.proofs.Exits.{of_search, of_table}
 use Rattle.std.proofs.Common.{◌≡◌, ◌≢◌, ap, subst, ℕ, List, true, Err}
 use Rattle.std.specs.Prelude.{AllPairs, Contains}
 use Rattle.retrograde.specs.View.{HasNumber}
 use Rattle.retrograde.specs.Stored.{Stored, IsTable, view_of}
 use Rattle.table.specs.Memory.{bytes_of_each}
-use Rattle.audit.specs.aid.Edges.{CountsIf}
+use Rattle.audit.specs.lemmas.Edges.{CountsIf}
 use Rattle.audit.proofs.ArrivalLemmas.{counted_moves}
 use Rattle.audit.proofs.MoveLemmas.{ascending_differ}
 use Rattle.table.proofs.Frames.{read_then}
@@ -23,54 +24,29 @@ returns-clause-counted g c = λ honest table within i x at.
     (c.in_ok-packed.ensures.position honest) within c.in_ok-found.ensures.exact
     (each table (ascending_differ ys c.in_ok-found.ensures.exact.ascending) i x at)
 
-pub returns-in_err-found-clause-wide : goal.returns-in_err-found-clause-wide
-returns-in_err-found-clause-wide g c =
-    λ honest within is.
-    let wide = c.in_err-found.ensures.wide (ap (λ (f : MoveFault). Err f) (search_wide _ (not_this c.from_residual-in_err-found.result _ _ c.from_residual-in_err-found.ensures is))) in
-    (c.args.from, c.in_ok-packed.packed.items, c.in_ok-packed.ensures.position honest, within, wide)
+pub returns-in_err-packed-clause-err : goal.returns-in_err-packed-clause-err
+returns-in_err-packed-clause-err g c =
+    passed_on _ c.from_residual.result _ c.from_residual.ensures (of_table c.in_err-packed.ensures.room c.in_err-packed.ensures.fault)
 
-pub returns-in_err-packed-clause-room : goal.returns-in_err-packed-clause-room
-returns-in_err-packed-clause-room g c =
-    passed_on _ c.from_residual.result _ c.from_residual.ensures c.in_err-packed.ensures.room
-
-pub returns-in_err-packed-clause-fault : goal.returns-in_err-packed-clause-fault
-returns-in_err-packed-clause-fault g c =
-    passed_on _ c.from_residual.result _ c.from_residual.ensures
-    c.in_err-packed.ensures.fault
-
-pub returns-in_err-packed-clause-wide : goal.returns-in_err-packed-clause-wide
-returns-in_err-packed-clause-wide g c =
-    λ honest within is. absurd (table_narrow _ (not_this c.from_residual.result _ _ c.from_residual.ensures is))
-
-pub returns-in_err-found-clause-room : goal.returns-in_err-found-clause-room
-returns-in_err-found-clause-room g c =
-    passed_on _ c.from_residual-in_err-found.result _ c.from_residual-in_err-found.ensures (search_of_none _ _)
-
-pub returns-in_err-found-clause-fault : goal.returns-in_err-found-clause-fault
-returns-in_err-found-clause-fault g c =
-    passed_on _ c.from_residual-in_err-found.result _ c.from_residual-in_err-found.ensures (search_of_none _ _)
+pub returns-in_err-found-clause-err : goal.returns-in_err-found-clause-err
+returns-in_err-found-clause-err g c =
+    passed_on _ c.from_residual-in_err-found.result _ c.from_residual-in_err-found.ensures
+    (of_search _ (λ is honest within. (
+      c.args.from,
+      c.in_ok-packed.packed.items,
+      c.in_ok-packed.ensures.position honest,
+      within,
+      c.in_err-found.ensures.wide (ap (λ (f : MoveFault). Err f) is),
+    )))
 
 pub returns-in_err-count_each-clause-read : goal.returns-in_err-count_each-clause-read
-returns-in_err-count_each-clause-read g c =
-    read_then g.met.T.Table.stays_then c.in_ok-packed.ensures.read c.in_err-count_each.ensures.read
+returns-in_err-count_each-clause-read g c = read_then g.met.T.Table.stays_then c.in_ok-packed.ensures.read c.in_err-count_each.ensures.read
 
-pub returns-in_err-count_each-clause-room : goal.returns-in_err-count_each-clause-room
-returns-in_err-count_each-clause-room g c =
-    passed_on _ c.from_residual-in_err-count_each.result _ c.from_residual-in_err-count_each.ensures c.in_err-count_each.ensures.room
-
-pub returns-in_err-count_each-clause-fault : goal.returns-in_err-count_each-clause-fault
-returns-in_err-count_each-clause-fault g c =
+pub returns-in_err-count_each-clause-err : goal.returns-in_err-count_each-clause-err
+returns-in_err-count_each-clause-err g c =
     passed_on _ c.from_residual-in_err-count_each.result _ c.from_residual-in_err-count_each.ensures
-    (g.met.T.Table.fails_since _ _ _ _ (g.met.T.Table.stays_goes_on _ _ c.in_ok-packed.ensures.read.stays) c.in_err-count_each.ensures.fault)
-
-pub returns-in_err-count_each-clause-wide : goal.returns-in_err-count_each-clause-wide
-returns-in_err-count_each-clause-wide g c =
-    λ honest within is. absurd (table_narrow _ (not_this c.from_residual-in_err-count_each.result _ _ c.from_residual-in_err-count_each.ensures is))
+    (of_table c.in_err-count_each.ensures.room
+    (g.met.T.Table.fails_since _ _ _ _ (g.met.T.Table.stays_goes_on _ _ c.in_ok-packed.ensures.read.stays) c.in_err-count_each.ensures.fault))
 
 pub returns-clause-read : goal.returns-clause-read
-returns-clause-read g c =
-    read_then g.met.T.Table.stays_then c.in_ok-packed.ensures.read c.in_ok-count_each.ensures.read
-
-pub returns-clause-wide : goal.returns-clause-wide
-returns-clause-wide g c =
-    λ honest within is. absurd (ok_differs _ _ is)
+returns-clause-read g c = read_then g.met.T.Table.stays_then c.in_ok-packed.ensures.read c.in_ok-count_each.ensures.read

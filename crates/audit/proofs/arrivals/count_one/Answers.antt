@@ -1,4 +1,4 @@
-use Rattle.audit.proofs.Passing.{passed_on}
+use Rattle.table.proofs.Exits.{passed_on}
 use Rattle.std.proofs.Common.{◌≡◌, ◌<◌, ap, subst, ℕ, List, Some, true, false, length, rules, arith, slice_get, slice_set}
 use Rattle.retrograde.specs.Stored.{Stored}
 use Rattle.audit.proofs.ArrivalLemmas.{unknown_counted, none_counted, one_counted}
@@ -15,7 +15,8 @@ returns-then-not-branch-clause-counted g c = λ honest table i x at.
     let h = c.in_ok-number.ensures.read.honest.0 honest in
     let stored = g.T.Table.stored c.args.table.now in
     let found : slice_get stored.positions c.in-Some.number ≡ Some c.args.position.now.items = rw c.in-Some.is at c.in_ok-number.ensures.found honest in
-    let there = subst (λ (t : Stored (List ℕ)). c.in_ok-has_edge.field-0 ≡ t.has_edge c.in-Some.number c.args.from) (c.in_ok-number.ensures.read.same honest) (c.in_ok-has_edge.ensures.there h) in
+    let there = subst (λ (t : Stored (List ℕ)). c.in_ok-has_edge.field-0 ≡ t.has_edge c.in-Some.number c.args.from)
+    (c.in_ok-number.ensures.read.same honest) (c.in_ok-has_edge.ensures.there h) in
     let fails : c.in_ok-has_edge.field-0 ≡ false = search rules in
     let none : stored.has_edge c.in-Some.number c.args.from ≡ false = cc in
     none_counted stored i c.args.from x c.args.position.now.items at table c.in-Some.number found c.args.arrivals.now.items none
@@ -25,7 +26,8 @@ returns-clause-counted g c = λ honest table i x at.
     let h = c.in_ok-number.ensures.read.honest.0 honest in
     let stored = g.T.Table.stored c.args.table.now in
     let found : slice_get stored.positions c.in-Some.number ≡ Some c.args.position.now.items = rw c.in-Some.is at c.in_ok-number.ensures.found honest in
-    let there = subst (λ (t : Stored (List ℕ)). c.in_ok-has_edge.field-0 ≡ t.has_edge c.in-Some.number c.args.from) (c.in_ok-number.ensures.read.same honest) (c.in_ok-has_edge.ensures.there h) in
+    let there = subst (λ (t : Stored (List ℕ)). c.in_ok-has_edge.field-0 ≡ t.has_edge c.in-Some.number c.args.from)
+    (c.in_ok-number.ensures.read.same honest) (c.in_ok-has_edge.ensures.there h) in
     let passes : c.in_ok-has_edge.field-0 ≡ true = search rules in
     let edge : stored.has_edge c.in-Some.number c.args.from ≡ true = cc in
     let few : c.in-Some.number < (g.T.Table.counted c.args.table.now).known = rw c.in-Some.is at c.in_ok-number.ensures.within in
@@ -33,22 +35,8 @@ returns-clause-counted g c = λ honest table i x at.
     one_counted stored i c.args.from x c.args.position.now.items at table c.in-Some.number found c.args.arrivals.now.items _
     c.index-count.result.now edge within c.index-count.ensures (ap (λ (m : ℕ). slice_set c.args.arrivals.now.items c.in-Some.number m) c.saturating_add.ensures)
 
-pub returns-in_err-number-clause-room : goal.returns-in_err-number-clause-room
-returns-in_err-number-clause-room g c =
-    passed_on _ c.from_residual.result _ c.from_residual.ensures c.in_err-number.ensures.room
-
-pub returns-in_err-number-clause-fault : goal.returns-in_err-number-clause-fault
-returns-in_err-number-clause-fault g c =
-    passed_on _ c.from_residual.result _ c.from_residual.ensures
-    c.in_err-number.ensures.fault
-
 pub returns-in_err-has_edge-clause-read : goal.returns-in_err-has_edge-clause-read
-returns-in_err-has_edge-clause-read g c =
-    read_then g.met.T.Table.stays_then c.in_ok-number.ensures.read c.in_err-has_edge.ensures.read
-
-pub returns-in_err-has_edge-clause-room : goal.returns-in_err-has_edge-clause-room
-returns-in_err-has_edge-clause-room g c =
-    passed_on _ c.from_residual-in_err-has_edge.result _ c.from_residual-in_err-has_edge.ensures c.in_err-has_edge.ensures.room
+returns-in_err-has_edge-clause-read g c = read_then g.met.T.Table.stays_then c.in_ok-number.ensures.read c.in_err-has_edge.ensures.read
 
 pub returns-in_err-has_edge-clause-fault : goal.returns-in_err-has_edge-clause-fault
 returns-in_err-has_edge-clause-fault g c =
@@ -56,9 +44,7 @@ returns-in_err-has_edge-clause-fault g c =
     (g.met.T.Table.fails_since _ _ _ _ (g.met.T.Table.stays_goes_on _ _ c.in_ok-number.ensures.read.stays) c.in_err-has_edge.ensures.fault)
 
 pub returns-then-not-branch-clause-read : goal.returns-then-not-branch-clause-read
-returns-then-not-branch-clause-read g c =
-    read_then g.met.T.Table.stays_then c.in_ok-number.ensures.read c.in_ok-has_edge.ensures.read
+returns-then-not-branch-clause-read g c = read_then g.met.T.Table.stays_then c.in_ok-number.ensures.read c.in_ok-has_edge.ensures.read
 
 pub returns-clause-read : goal.returns-clause-read
-returns-clause-read g c =
-    read_then g.met.T.Table.stays_then c.in_ok-number.ensures.read c.in_ok-has_edge.ensures.read
+returns-clause-read g c = read_then g.met.T.Table.stays_then c.in_ok-number.ensures.read c.in_ok-has_edge.ensures.read

@@ -1,4 +1,4 @@
-use Rattle.audit.proofs.Passing.{passed_on}
+use Rattle.table.proofs.Exits.{passed_on}
 use Rattle.std.proofs.Common.{◌≡◌, ◌<◌, ap, length, subst, List, ℕ, arith}
 use Rattle.retrograde.specs.declared.records.Counts.{Counts}
 use Rattle.retrograde.specs.Stored.{Stored, count_below}
@@ -18,7 +18,8 @@ loop-count-preserved g c = record {
       let h = c.loop-count.invariant.read.honest.0 honest in
       let edge = rw c.in-Some.is at c.in_ok-from.ensures.next h in
       let edge' = subst (λ (t : Stored (List ℕ)). IsNextEdge t c.args.to c.loop-count.after c.in-Some.from) (c.loop-count.invariant.read.same honest) edge in
-      count_next (g.T.Table.stored c.args.table.now) c.args.to c.loop-count.after c.in-Some.from c.loop-count.count edge' (c.loop-count.invariant.counted honest);
+      count_next (g.T.Table.stored c.args.table.now) c.args.to c.loop-count.after c.in-Some.from c.loop-count.count edge'
+      (c.loop-count.invariant.counted honest);
 }
 
 pub returns-in_default-clause-count : goal.returns-in_default-clause-count
@@ -37,17 +38,13 @@ returns-clause-count g c = λ honest.
     let size = length (g.T.Table.stored c.args.table.now).positions in
     let it : size ≡ count_below size (λ p. (g.T.Table.stored c.args.table.now).has_edge c.args.to p) =
     count_full (g.T.Table.stored c.args.table.now) c.args.to c.loop-count.after size c.loop-count.count
-    (omega (arith, count, all, c.loop-count-test.false)) c.loop-count.invariant.few (omega (arith, count, c.loop-count.invariant.within)) (c.loop-count.invariant.counted honest) in
+    (omega (arith, count, all, c.loop-count-test.false)) c.loop-count.invariant.few (omega (arith, count, c.loop-count.invariant.within))
+    (c.loop-count.invariant.counted honest) in
     let same : c.counts-known.result.known ≡ size = omega (arith, count, all) in
     rw same it
 
 pub returns-in_err-from-clause-read : goal.returns-in_err-from-clause-read
-returns-in_err-from-clause-read g c =
-    read_then g.met.T.Table.stays_then c.loop-count.invariant.read c.in_err-from.ensures.read
-
-pub returns-in_err-from-clause-room : goal.returns-in_err-from-clause-room
-returns-in_err-from-clause-room g c =
-    passed_on _ c.from_residual.result _ c.from_residual.ensures c.in_err-from.ensures.room
+returns-in_err-from-clause-read g c = read_then g.met.T.Table.stays_then c.loop-count.invariant.read c.in_err-from.ensures.read
 
 pub returns-in_err-from-clause-fault : goal.returns-in_err-from-clause-fault
 returns-in_err-from-clause-fault g c =
@@ -55,5 +52,4 @@ returns-in_err-from-clause-fault g c =
     (g.met.T.Table.fails_since _ _ _ _ (g.met.T.Table.stays_goes_on _ _ c.loop-count.invariant.read.stays) c.in_err-from.ensures.fault)
 
 pub returns-in_default-clause-read : goal.returns-in_default-clause-read
-returns-in_default-clause-read g c =
-    read_then g.met.T.Table.stays_then c.loop-count.invariant.read c.in_ok-from.ensures.read
+returns-in_default-clause-read g c = read_then g.met.T.Table.stays_then c.loop-count.invariant.read c.in_ok-from.ensures.read

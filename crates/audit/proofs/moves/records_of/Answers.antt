@@ -1,4 +1,5 @@
-use Rattle.audit.proofs.Passing.{passed_on, memory_narrow, table_narrow}
+use Rattle.table.proofs.Exits.{passed_on}
+use Rattle.audit.proofs.Exits.{of_memory, of_table}
 use Rattle.std.proofs.Common.{◌≡◌, ◌++◌, ◌∷◌, [], subst, ℕ, List, take, get_or}
 use Rattle.std.proofs.lemmas.List.{take_more}
 use Rattle.retrograde.specs.Stored.{Stored, HasRecord}
@@ -15,42 +16,24 @@ loop-number-preserved g c = record {
       let items : c.push.new.self.items ≡ c.loop-number.records.items ++ r ∷ [] = c.in_ok-push.ensures.items in
       let step = take_more c.args.numbers.now c.loop-number.number-index 0 c.loop-number-test.true in
       let found = c.in_ok-record.ensures.record h in
-      let found' = subst (λ (t : Stored (List ℕ)). HasRecord t (get_or c.args.numbers.now c.loop-number.number-index 0) r) (c.loop-number.invariant.read.same honest) found in
+      let found' = subst (λ (t : Stored (List ℕ)). HasRecord t (get_or c.args.numbers.now c.loop-number.number-index 0) r)
+      (c.loop-number.invariant.read.same honest) found in
       rw (step, items)
       (zip_push (HasRecord (g.T.Table.stored c.args.table.now)) (take c.loop-number.number-index c.args.numbers.now)
       c.loop-number.records.items (get_or c.args.numbers.now c.loop-number.number-index 0) r (c.loop-number.invariant.records honest) found');
 }
 
 pub returns-in_err-record-clause-read : goal.returns-in_err-record-clause-read
-returns-in_err-record-clause-read g c =
-    read_then g.met.T.Table.stays_then c.loop-number.invariant.read c.in_err-record.ensures.read
+returns-in_err-record-clause-read g c = read_then g.met.T.Table.stays_then c.loop-number.invariant.read c.in_err-record.ensures.read
 
-pub returns-in_err-record-clause-room : goal.returns-in_err-record-clause-room
-returns-in_err-record-clause-room g c =
-    passed_on _ c.from_residual.result _ c.from_residual.ensures c.in_err-record.ensures.room
-
-pub returns-in_err-record-clause-fault : goal.returns-in_err-record-clause-fault
-returns-in_err-record-clause-fault g c =
+pub returns-in_err-record-clause-err : goal.returns-in_err-record-clause-err
+returns-in_err-record-clause-err g c =
     passed_on _ c.from_residual.result _ c.from_residual.ensures
-    (g.met.T.Table.fails_since _ _ _ _ (g.met.T.Table.stays_goes_on _ _ c.loop-number.invariant.read.stays) c.in_err-record.ensures.fault)
-
-pub returns-in_err-record-clause-narrow : goal.returns-in_err-record-clause-narrow
-returns-in_err-record-clause-narrow g c =
-    passed_on _ c.from_residual.result _ c.from_residual.ensures (table_narrow _)
+    (of_table c.in_err-record.ensures.room
+    (g.met.T.Table.fails_since _ _ _ _ (g.met.T.Table.stays_goes_on _ _ c.loop-number.invariant.read.stays) c.in_err-record.ensures.fault))
 
 pub returns-in_err-push-clause-read : goal.returns-in_err-push-clause-read
-returns-in_err-push-clause-read g c =
-    read_then g.met.T.Table.stays_then c.loop-number.invariant.read c.in_ok-record.ensures.read
+returns-in_err-push-clause-read g c = read_then g.met.T.Table.stays_then c.loop-number.invariant.read c.in_ok-record.ensures.read
 
-pub returns-in_err-push-clause-room : goal.returns-in_err-push-clause-room
-returns-in_err-push-clause-room g c =
-    passed_on _ c.from_residual-in_err-push.result _ c.from_residual-in_err-push.ensures tt
-
-pub returns-in_err-push-clause-fault : goal.returns-in_err-push-clause-fault
-returns-in_err-push-clause-fault g c =
-    passed_on _ c.from_residual-in_err-push.result _ c.from_residual-in_err-push.ensures
-    tt
-
-pub returns-in_err-push-clause-narrow : goal.returns-in_err-push-clause-narrow
-returns-in_err-push-clause-narrow g c =
-    passed_on _ c.from_residual-in_err-push.result _ c.from_residual-in_err-push.ensures memory_narrow
+pub returns-in_err-push-clause-err : goal.returns-in_err-push-clause-err
+returns-in_err-push-clause-err g c = passed_on _ c.from_residual-in_err-push.result _ c.from_residual-in_err-push.ensures of_memory

@@ -1,6 +1,6 @@
-use Rattle.audit.specs.declared.fault.AuditFault.{AuditFault}
-use Rattle.audit.proofs.Passing.{passed_on, not_this, ok_differs, table_narrow}
-use Rattle.std.proofs.Common.{◌≡◌, ◌∙◌, sym, subst, ℕ, List, length, ap, Err}
+use Rattle.table.proofs.Exits.{passed_on}
+use Rattle.audit.proofs.Exits.{of_table}
+use Rattle.std.proofs.Common.{◌≡◌, ◌∙◌, sym, subst, ℕ, List, length}
 use Rattle.retrograde.specs.Stored.{Stored, count_below}
 use Rattle.audit.proofs.ArrivalLemmas.{edges_are_moves, as_many_edges}
 use Rattle.audit.proofs.LowestLemmas.{stray_lower, stray_there, no_stray}
@@ -19,7 +19,8 @@ returns-then-branch-arriving-clause-lowest g c = λ honest table floor x at arri
     let stored = g.T.Table.stored c.args.table.now in
     let count = subst (λ (t : Stored (List ℕ)). c.in_ok-count_edges.field-0 ≡ count_below (length t.positions) (λ p. t.has_edge c.args.number p))
     (c.in_ok-own.ensures.read.same honest) (c.in_ok-count_edges.ensures.count h) in
-    stray_there graph stored c.args.number x c.in_ok-own.own (c.is_lower.ensures.other c.if-is_lower.false).0 (c.in_ok-own.ensures.lowest honest table floor x at)
+    stray_there graph stored c.args.number x c.in_ok-own.own (c.is_lower.ensures.other c.if-is_lower.false).0
+    (c.in_ok-own.ensures.lowest honest table floor x at)
     (λ moves. c.if-branch-arriving.true (count ∙ sym (as_many_edges graph stored c.args.number x table c.args.arriving arriving moves)))
 
 pub returns-clause-lowest : goal.returns-clause-lowest
@@ -32,53 +33,17 @@ returns-clause-lowest g c = λ honest table floor x at arriving.
     no_stray graph stored c.args.number x c.in_ok-own.own (c.is_lower.ensures.other c.if-is_lower.false).1 (c.in_ok-own.ensures.lowest honest table floor x at)
     (edges_are_moves graph stored c.args.number x table c.args.arriving arriving (sym c.if-branch-arriving.false ∙ count))
 
-pub returns-in_err-own-clause-room : goal.returns-in_err-own-clause-room
-returns-in_err-own-clause-room g c =
-    passed_on _ c.from_residual.result _ c.from_residual.ensures c.in_err-own.ensures.room
-
-pub returns-in_err-own-clause-fault : goal.returns-in_err-own-clause-fault
-returns-in_err-own-clause-fault g c =
-    passed_on _ c.from_residual.result _ c.from_residual.ensures
-    c.in_err-own.ensures.fault
-
-pub returns-in_err-own-clause-wide : goal.returns-in_err-own-clause-wide
-returns-in_err-own-clause-wide g c =
-    λ honest is.
-    c.in_err-own.ensures.wide honest (ap (λ (f : AuditFault). Err f) (not_this c.from_residual.result _ _ c.from_residual.ensures is))
-
 pub returns-in_err-count_edges-clause-read : goal.returns-in_err-count_edges-clause-read
-returns-in_err-count_edges-clause-read g c =
-    read_then g.met.T.Table.stays_then c.in_ok-own.ensures.read c.in_err-count_edges.ensures.read
+returns-in_err-count_edges-clause-read g c = read_then g.met.T.Table.stays_then c.in_ok-own.ensures.read c.in_err-count_edges.ensures.read
 
-pub returns-in_err-count_edges-clause-room : goal.returns-in_err-count_edges-clause-room
-returns-in_err-count_edges-clause-room g c =
-    passed_on _ c.from_residual-in_err-count_edges.result _ c.from_residual-in_err-count_edges.ensures c.in_err-count_edges.ensures.room
-
-pub returns-in_err-count_edges-clause-fault : goal.returns-in_err-count_edges-clause-fault
-returns-in_err-count_edges-clause-fault g c =
+pub returns-in_err-count_edges-clause-err : goal.returns-in_err-count_edges-clause-err
+returns-in_err-count_edges-clause-err g c =
     passed_on _ c.from_residual-in_err-count_edges.result _ c.from_residual-in_err-count_edges.ensures
-    (g.met.T.Table.fails_since _ _ _ _ (g.met.T.Table.stays_goes_on _ _ c.in_ok-own.ensures.read.stays) c.in_err-count_edges.ensures.fault)
-
-pub returns-in_err-count_edges-clause-wide : goal.returns-in_err-count_edges-clause-wide
-returns-in_err-count_edges-clause-wide g c =
-    λ honest is. absurd (table_narrow _ (not_this c.from_residual-in_err-count_edges.result _ _ c.from_residual-in_err-count_edges.ensures is))
-
-pub returns-then-is_lower-clause-wide : goal.returns-then-is_lower-clause-wide
-returns-then-is_lower-clause-wide g c =
-    λ honest is. absurd (ok_differs _ _ is)
+    (of_table c.in_err-count_edges.ensures.room
+    (g.met.T.Table.fails_since _ _ _ _ (g.met.T.Table.stays_goes_on _ _ c.in_ok-own.ensures.read.stays) c.in_err-count_edges.ensures.fault))
 
 pub returns-then-branch-arriving-clause-read : goal.returns-then-branch-arriving-clause-read
-returns-then-branch-arriving-clause-read g c =
-    read_then g.met.T.Table.stays_then c.in_ok-own.ensures.read c.in_ok-count_edges.ensures.read
-
-pub returns-then-branch-arriving-clause-wide : goal.returns-then-branch-arriving-clause-wide
-returns-then-branch-arriving-clause-wide g c =
-    λ honest is. absurd (ok_differs _ _ is)
+returns-then-branch-arriving-clause-read g c = read_then g.met.T.Table.stays_then c.in_ok-own.ensures.read c.in_ok-count_edges.ensures.read
 
 pub returns-clause-read : goal.returns-clause-read
-returns-clause-read g c =
-    read_then g.met.T.Table.stays_then c.in_ok-own.ensures.read c.in_ok-count_edges.ensures.read
-
-pub returns-clause-wide : goal.returns-clause-wide
-returns-clause-wide g c =
-    λ honest is. absurd (ok_differs _ _ is)
+returns-clause-read g c = read_then g.met.T.Table.stays_then c.in_ok-own.ensures.read c.in_ok-count_edges.ensures.read

@@ -1,8 +1,9 @@
-use Rattle.audit.proofs.Passing.{passed_on, ok_differs}
+use Rattle.table.proofs.Exits.{passed_on}
+use Rattle.audit.proofs.Exits.{since}
 use Rattle.std.proofs.Common.{◌∙◌, ◌<◌, ◌≤◌, ap, arith}
 use Rattle.retrograde.specs.declared.records.Counts.{Counts}
 use Rattle.retrograde.specs.Stored.{expanded_count}
-use Rattle.audit.specs.aid.Conditions.{AreItsRecords}
+use Rattle.audit.specs.lemmas.Conditions.{AreItsRecords}
 use Rattle.audit.proofs.LowestLemmas.{second_fails, order_fails, value_fails, waiting_all}
 use Rattle.audit.proofs.number.later_failing.Goals as goal
 
@@ -45,27 +46,11 @@ returns-clause-lowest g c = λ honest table has floor reached.
     (rw c.in_default-order_failing.is at c.order_failing.ensures stored c.args.number table has counts floor) table within c.value_failing.result
     (c.value_failing.ensures stored c.args.number table has within (rw c.deref.ensures.value it))
 
-pub returns-then-number-counts-clause-wide : goal.returns-then-number-counts-clause-wide
-returns-then-number-counts-clause-wide g c =
-    λ honest is. absurd (ok_differs _ _ is)
-
-pub returns-in_err-successors-clause-room : goal.returns-in_err-successors-clause-room
-returns-in_err-successors-clause-room g c =
-    passed_on _ c.from_residual.result _ c.from_residual.ensures c.in_err-successors.ensures.room
-
-pub returns-in_err-successors-clause-fault : goal.returns-in_err-successors-clause-fault
-returns-in_err-successors-clause-fault g c =
+pub returns-in_err-successors-clause-err : goal.returns-in_err-successors-clause-err
+returns-in_err-successors-clause-err g c =
     passed_on _ c.from_residual.result _ c.from_residual.ensures
-    c.in_err-successors.ensures.fault
-
-pub returns-in_default-clause-wide : goal.returns-in_default-clause-wide
-returns-in_default-clause-wide g c =
-    λ honest is. absurd (ok_differs _ _ is)
-
-pub returns-in-Some-order_failing-clause-wide : goal.returns-in-Some-order_failing-clause-wide
-returns-in-Some-order_failing-clause-wide g c =
-    λ honest is. absurd (ok_differs _ _ is)
-
-pub returns-clause-wide : goal.returns-clause-wide
-returns-clause-wide g c =
-    λ honest is. absurd (ok_differs _ _ is)
+    (since (λ wide honest.
+    let expanded = ap (λ (k : Counts). k.expanded) (c.counts-counts.ensures ∙ g.met.T.Table.counts_are _ honest) in
+    (omega (arith, expanded, c.if-number-counts.false), wide))
+    (λ fault fails. fails)
+    c.in_err-successors.ensures.err)

@@ -1,10 +1,10 @@
-use Rattle.audit.specs.declared.fault.AuditFault.{AuditFault}
-use Rattle.audit.proofs.Passing.{passed_on, not_this, ok_differs, table_narrow, of_table_after}
-use Rattle.std.proofs.Common.{◌≡◌, ◌∙◌, ◌↔◌, sym, subst, rules, ℕ, List, true, ◌<◌, ap, Err}
+use Rattle.table.proofs.Exits.{passed_on}
+use Rattle.audit.proofs.Exits.{of_table, since}
+use Rattle.std.proofs.Common.{◌≡◌, ◌∙◌, ◌↔◌, sym, subst, rules, ℕ, List, true, ◌<◌}
 use Rattle.std.proofs.lemmas.Option.{same_Some}
 use Rattle.retrograde.specs.Audit.{IsReached}
 use Rattle.retrograde.specs.Stored.{Stored, IsTable, HasRecord, expanded_count}
-use Rattle.audit.specs.aid.Conditions.{IsLowest, IsFloor, own_condition}
+use Rattle.audit.specs.lemmas.Conditions.{IsLowest, IsFloor, own_condition}
 use Rattle.table.proofs.Frames.{read_then}
 use Rattle.audit.proofs.number.own_failing.Goals as goal
 
@@ -22,40 +22,23 @@ returns-clause-lowest g c = λ honest table floor x at.
     let here : y ≡ x = same_Some y x (sym (c.in_ok-at.ensures.position honest) ∙ at) in
     let has = subst (λ (t : Stored (List ℕ)). HasRecord t c.args.number c.in_ok-kept.kept) same1 (c.in_ok-kept.ensures.record h1) in
     let there : c.in_ok-is_reached.field-0 ≡ true = search rules in
-    let reached = subst (λ (t : Stored (List ℕ)). (c.in_ok-is_reached.field-0 ≡ true) ↔ IsReached graph t c.args.number y) same2 (c.in_ok-is_reached.ensures.reached h2) in
+    let reached = subst (λ (t : Stored (List ℕ)). (c.in_ok-is_reached.field-0 ≡ true) ↔ IsReached graph t c.args.number y) same2
+    (c.in_ok-is_reached.ensures.reached h2) in
     let lowest = subst (λ (t : Stored (List ℕ)). IsTable t → HasRecord t c.args.number c.in_ok-kept.kept → IsFloor t c.args.number c.args.floor
     → IsReached graph t c.args.number y → IsLowest (own_condition graph t c.args.number y) c.in_ok-reason.reason) same3 (c.in_ok-reason.ensures.lowest h3) in
     subst (λ (z : List ℕ). IsLowest (own_condition graph stored c.args.number z) c.in_ok-reason.reason) here (lowest table has floor (reached.0 there))
 
-pub returns-in_err-at-clause-room : goal.returns-in_err-at-clause-room
-returns-in_err-at-clause-room g c =
-    passed_on _ c.from_residual.result _ c.from_residual.ensures c.in_err-at.ensures.room
-
-pub returns-in_err-at-clause-fault : goal.returns-in_err-at-clause-fault
-returns-in_err-at-clause-fault g c =
-    passed_on _ c.from_residual.result _ c.from_residual.ensures
-    c.in_err-at.ensures.fault
-
-pub returns-in_err-at-clause-wide : goal.returns-in_err-at-clause-wide
-returns-in_err-at-clause-wide g c =
-    λ honest is. absurd (table_narrow _ (not_this c.from_residual.result _ _ c.from_residual.ensures is))
+pub returns-in_err-at-clause-err : goal.returns-in_err-at-clause-err
+returns-in_err-at-clause-err g c = passed_on _ c.from_residual.result _ c.from_residual.ensures (of_table c.in_err-at.ensures.room c.in_err-at.ensures.fault)
 
 pub returns-in_err-kept-clause-read : goal.returns-in_err-kept-clause-read
-returns-in_err-kept-clause-read g c =
-    read_then g.met.T.Table.stays_then c.in_ok-at.ensures.read c.in_err-kept.ensures.read
+returns-in_err-kept-clause-read g c = read_then g.met.T.Table.stays_then c.in_ok-at.ensures.read c.in_err-kept.ensures.read
 
-pub returns-in_err-kept-clause-room : goal.returns-in_err-kept-clause-room
-returns-in_err-kept-clause-room g c =
-    passed_on _ c.from_residual-in_err-kept.result _ c.from_residual-in_err-kept.ensures c.in_err-kept.ensures.room
-
-pub returns-in_err-kept-clause-fault : goal.returns-in_err-kept-clause-fault
-returns-in_err-kept-clause-fault g c =
+pub returns-in_err-kept-clause-err : goal.returns-in_err-kept-clause-err
+returns-in_err-kept-clause-err g c =
     passed_on _ c.from_residual-in_err-kept.result _ c.from_residual-in_err-kept.ensures
-    (g.met.T.Table.fails_since _ _ _ _ (g.met.T.Table.stays_goes_on _ _ c.in_ok-at.ensures.read.stays) c.in_err-kept.ensures.fault)
-
-pub returns-in_err-kept-clause-wide : goal.returns-in_err-kept-clause-wide
-returns-in_err-kept-clause-wide g c =
-    λ honest is. absurd (table_narrow _ (not_this c.from_residual-in_err-kept.result _ _ c.from_residual-in_err-kept.ensures is))
+    (of_table c.in_err-kept.ensures.room
+    (g.met.T.Table.fails_since _ _ _ _ (g.met.T.Table.stays_goes_on _ _ c.in_ok-at.ensures.read.stays) c.in_err-kept.ensures.fault))
 
 pub returns-in_err-is_reached-clause-read : goal.returns-in_err-is_reached-clause-read
 returns-in_err-is_reached-clause-read g c =
@@ -63,18 +46,13 @@ returns-in_err-is_reached-clause-read g c =
     (read_then g.met.T.Table.stays_then c.in_ok-at.ensures.read c.in_ok-kept.ensures.read)
     c.in_err-is_reached.ensures.read
 
-pub returns-in_err-is_reached-clause-room : goal.returns-in_err-is_reached-clause-room
-returns-in_err-is_reached-clause-room g c =
-    passed_on _ c.from_residual-in_err-is_reached.result _ c.from_residual-in_err-is_reached.ensures c.in_err-is_reached.ensures.room
-
-pub returns-in_err-is_reached-clause-fault : goal.returns-in_err-is_reached-clause-fault
-returns-in_err-is_reached-clause-fault g c =
+pub returns-in_err-is_reached-clause-err : goal.returns-in_err-is_reached-clause-err
+returns-in_err-is_reached-clause-err g c =
     passed_on _ c.from_residual-in_err-is_reached.result _ c.from_residual-in_err-is_reached.ensures
-    (g.met.T.Table.fails_since _ _ _ _ (g.met.T.Table.stays_goes_on _ _ (g.met.T.Table.stays_then _ _ _ c.in_ok-at.ensures.read.stays c.in_ok-kept.ensures.read.stays)) c.in_err-is_reached.ensures.fault)
-
-pub returns-in_err-is_reached-clause-wide : goal.returns-in_err-is_reached-clause-wide
-returns-in_err-is_reached-clause-wide g c =
-    λ honest is. absurd (table_narrow _ (not_this c.from_residual-in_err-is_reached.result _ _ c.from_residual-in_err-is_reached.ensures is))
+    (of_table c.in_err-is_reached.ensures.room
+    (g.met.T.Table.fails_since _ _ _ _
+    (g.met.T.Table.stays_goes_on _ _ (g.met.T.Table.stays_then _ _ _ c.in_ok-at.ensures.read.stays c.in_ok-kept.ensures.read.stays))
+    c.in_err-is_reached.ensures.fault))
 
 pub returns-in_err-reason-clause-read : goal.returns-in_err-reason-clause-read
 returns-in_err-reason-clause-read g c =
@@ -83,34 +61,25 @@ returns-in_err-reason-clause-read g c =
     c.in_ok-is_reached.ensures.read)
     c.in_err-reason.ensures.read
 
-pub returns-in_err-reason-clause-room : goal.returns-in_err-reason-clause-room
-returns-in_err-reason-clause-room g c =
-    passed_on _ c.from_residual-in_err-reason.result _ c.from_residual-in_err-reason.ensures c.in_err-reason.ensures.room
-
-pub returns-in_err-reason-clause-fault : goal.returns-in_err-reason-clause-fault
-returns-in_err-reason-clause-fault g c =
+pub returns-in_err-reason-clause-err : goal.returns-in_err-reason-clause-err
+returns-in_err-reason-clause-err g c =
     passed_on _ c.from_residual-in_err-reason.result _ c.from_residual-in_err-reason.ensures
-    (of_table_after _ _ _ (λ fault. g.met.T.Table.fails_since _ _ _ fault (g.met.T.Table.stays_goes_on _ _ (g.met.T.Table.stays_then _ _ _ (g.met.T.Table.stays_then _ _ _ c.in_ok-at.ensures.read.stays c.in_ok-kept.ensures.read.stays) c.in_ok-is_reached.ensures.read.stays))) c.in_err-reason.ensures.fault)
-
-pub returns-in_err-reason-clause-wide : goal.returns-in_err-reason-clause-wide
-returns-in_err-reason-clause-wide g c =
-    λ honest is.
+    (since (λ wide honest.
     let h1 = c.in_ok-at.ensures.read.honest.0 honest in
     let h2 = c.in_ok-kept.ensures.read.honest.0 h1 in
     let same = c.in_ok-is_reached.ensures.read.same h2 ∙ (c.in_ok-kept.ensures.read.same h1 ∙ c.in_ok-at.ensures.read.same honest) in
-    let wide = c.in_err-reason.ensures.wide (c.in_ok-is_reached.ensures.read.honest.0 h2) (ap (λ (f : AuditFault). Err f) (not_this c.from_residual-in_err-reason.result _ _ c.from_residual-in_err-reason.ensures is)) in
-    let within = subst (λ (t : Stored (List ℕ)). c.args.number < expanded_count t) same wide.0 in
-    (c.args.number, c.in_ok-at.at.items, c.in_ok-at.ensures.position honest, within, wide.1)
+    let it = wide (c.in_ok-is_reached.ensures.read.honest.0 h2) in
+    let within = subst (λ (t : Stored (List ℕ)). c.args.number < expanded_count t) same it.0 in
+    (c.args.number, c.in_ok-at.at.items, c.in_ok-at.ensures.position honest, within, it.1))
+    (λ fault. g.met.T.Table.fails_since _ _ _ fault
+    (g.met.T.Table.stays_goes_on _ _
+    (g.met.T.Table.stays_then _ _ _ (g.met.T.Table.stays_then _ _ _ c.in_ok-at.ensures.read.stays c.in_ok-kept.ensures.read.stays)
+    c.in_ok-is_reached.ensures.read.stays)))
+    c.in_err-reason.ensures.err)
 
 pub returns-then-not-branch-clause-read : goal.returns-then-not-branch-clause-read
 returns-then-not-branch-clause-read g c =
-    read_then g.met.T.Table.stays_then
-    (read_then g.met.T.Table.stays_then c.in_ok-at.ensures.read c.in_ok-kept.ensures.read)
-    c.in_ok-is_reached.ensures.read
-
-pub returns-then-not-branch-clause-wide : goal.returns-then-not-branch-clause-wide
-returns-then-not-branch-clause-wide g c =
-    λ honest is. absurd (ok_differs _ _ is)
+    read_then g.met.T.Table.stays_then (read_then g.met.T.Table.stays_then c.in_ok-at.ensures.read c.in_ok-kept.ensures.read) c.in_ok-is_reached.ensures.read
 
 pub returns-clause-read : goal.returns-clause-read
 returns-clause-read g c =
@@ -118,7 +87,3 @@ returns-clause-read g c =
     (read_then g.met.T.Table.stays_then (read_then g.met.T.Table.stays_then c.in_ok-at.ensures.read c.in_ok-kept.ensures.read)
     c.in_ok-is_reached.ensures.read)
     c.in_ok-reason.ensures.read
-
-pub returns-clause-wide : goal.returns-clause-wide
-returns-clause-wide g c =
-    λ honest is. absurd (ok_differs _ _ is)

@@ -1,15 +1,17 @@
-use Rattle.audit.proofs.Passing.{passed_on, table_narrow}
+use Rattle.table.proofs.Exits.{passed_on}
+use Rattle.audit.proofs.Exits.{of_table}
 use Rattle.std.proofs.Common.{◌≡◌, ◌<◌, sym, ap, subst, ℕ, List, Some, length, arith, slice_get, slice_set, ◌∙◌}
 use Rattle.retrograde.specs.declared.records.Counts.{Counts}
 use Rattle.retrograde.specs.Stored.{Stored, IsTable}
 use Rattle.retrograde.proofs.Finished.{element}
-use Rattle.audit.specs.aid.Conditions.{distance_at}
+use Rattle.audit.specs.lemmas.Conditions.{distance_at}
 use Rattle.audit.proofs.FloorLemmas.{floors_step, distance_next}
 use Rattle.table.proofs.Frames.{read_then}
 use Rattle.audit.proofs.order.floors.Given as Given
 use Rattle.audit.proofs.order.floors.Goals as goal
 
 -- what was written at this place
+
 place_here : (g : Given.Over) (c : goal.In_ok-last g) → g.T.Table.is_honest c.args.table.now → IsTable (g.T.Table.stored c.args.table.now)
     → (i : ℕ) × (slice_get (g.T.Table.stored c.args.table.now).order c.loop-place.place ≡ Some i)
     × ((c.in_ok-last.last ≡ distance_at (g.T.Table.stored c.args.table.now) (Some i)) × (i < length c.loop-place.floors.items)
@@ -40,18 +42,10 @@ loop-place-preserved g c = record {
 }
 
 pub returns-in_err-last-clause-read : goal.returns-in_err-last-clause-read
-returns-in_err-last-clause-read g c =
-    read_then g.met.T.Table.stays_then c.loop-place.invariant.read c.in_err-last.ensures.read
+returns-in_err-last-clause-read g c = read_then g.met.T.Table.stays_then c.loop-place.invariant.read c.in_err-last.ensures.read
 
-pub returns-in_err-last-clause-room : goal.returns-in_err-last-clause-room
-returns-in_err-last-clause-room g c =
-    passed_on _ c.from_residual-in_err-last.result _ c.from_residual-in_err-last.ensures c.in_err-last.ensures.room
-
-pub returns-in_err-last-clause-fault : goal.returns-in_err-last-clause-fault
-returns-in_err-last-clause-fault g c =
+pub returns-in_err-last-clause-err : goal.returns-in_err-last-clause-err
+returns-in_err-last-clause-err g c =
     passed_on _ c.from_residual-in_err-last.result _ c.from_residual-in_err-last.ensures
-    (g.met.T.Table.fails_since _ _ _ _ (g.met.T.Table.stays_goes_on _ _ c.loop-place.invariant.read.stays) c.in_err-last.ensures.fault)
-
-pub returns-in_err-last-clause-narrow : goal.returns-in_err-last-clause-narrow
-returns-in_err-last-clause-narrow g c =
-    passed_on _ c.from_residual-in_err-last.result _ c.from_residual-in_err-last.ensures (table_narrow _)
+    (of_table c.in_err-last.ensures.room
+    (g.met.T.Table.fails_since _ _ _ _ (g.met.T.Table.stays_goes_on _ _ c.loop-place.invariant.read.stays) c.in_err-last.ensures.fault))

@@ -1,6 +1,6 @@
 use Rattle.std.proofs.Common.{◌≡◌, length}
 use Rattle.retrograde.specs.Stored.{IsTable}
-use Rattle.audit.specs.aid.Conditions.{AreFloors, distance_before}
+use Rattle.audit.specs.lemmas.Conditions.{AreFloors, distance_before}
 use Rattle.table.specs.Frames.{IsRead}
 use Rattle.audit.proofs.order.floors.Given as goal
 

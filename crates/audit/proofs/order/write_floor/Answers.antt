@@ -1,10 +1,10 @@
-use Rattle.audit.proofs.Passing.{passed_on}
+use Rattle.table.proofs.Exits.{passed_on}
 use Rattle.std.proofs.Common.{◌≡◌, ◌∙◌, ◌<◌, sym, ap, subst, ℕ, List, Option, Some, length, arith, slice_get, slice_set}
 use Rattle.std.proofs.lemmas.Option.{same_Some}
 use Rattle.retrograde.specs.declared.records.Counts.{Counts}
 use Rattle.retrograde.specs.declared.records.Record.{Record}
 use Rattle.retrograde.specs.Stored.{Stored}
-use Rattle.audit.specs.aid.Conditions.{distance_in}
+use Rattle.audit.specs.lemmas.Conditions.{distance_in}
 use Rattle.audit.proofs.FloorLemmas.{in_range}
 use Rattle.table.proofs.Frames.{read_then}
 use Rattle.audit.proofs.order.write_floor.Goals as goal
@@ -15,7 +15,8 @@ returns-clause-written g c = λ honest table i at.
     let stored = g.T.Table.stored c.args.table.now in
     let same = same_Some c.in_ok-number.number i (sym (c.in_ok-number.ensures.number honest) ∙ at) in
     let record_is : slice_get stored.records c.in_ok-number.number ≡ Some c.in_ok-record.field-0 =
-    subst (λ (t : Stored (List ℕ)). slice_get t.records c.in_ok-number.number ≡ Some c.in_ok-record.field-0) (c.in_ok-number.ensures.read.same honest) (c.in_ok-record.ensures.record h) in
+    subst (λ (t : Stored (List ℕ)). slice_get t.records c.in_ok-number.number ≡ Some c.in_ok-record.field-0)
+    (c.in_ok-number.ensures.read.same honest) (c.in_ok-record.ensures.record h) in
     let there : slice_get stored.records i ≡ Some c.in_ok-record.field-0 = ap (λ (m : ℕ). slice_get stored.records m) (sym same) ∙ record_is in
     let count = ap (λ (k : Counts). k.known) (g.met.T.Table.counts_are c.args.table.now honest) in
     let within : i < length stored.positions = in_range stored table c.args.place i at in (
@@ -31,22 +32,8 @@ returns-then-number-len-clause-written g c = λ honest table i at.
     let within = in_range (g.T.Table.stored c.args.table.now) table c.args.place i at in
     absurd (omega (arith, same, count, within, c.requires.lengths, c.if-number-len.true))
 
-pub returns-in_err-number-clause-room : goal.returns-in_err-number-clause-room
-returns-in_err-number-clause-room g c =
-    passed_on _ c.from_residual.result _ c.from_residual.ensures c.in_err-number.ensures.room
-
-pub returns-in_err-number-clause-fault : goal.returns-in_err-number-clause-fault
-returns-in_err-number-clause-fault g c =
-    passed_on _ c.from_residual.result _ c.from_residual.ensures
-    c.in_err-number.ensures.fault
-
 pub returns-in_err-record-clause-read : goal.returns-in_err-record-clause-read
-returns-in_err-record-clause-read g c =
-    read_then g.met.T.Table.stays_then c.in_ok-number.ensures.read c.in_err-record.ensures.read
-
-pub returns-in_err-record-clause-room : goal.returns-in_err-record-clause-room
-returns-in_err-record-clause-room g c =
-    passed_on _ c.from_residual-in_err-record.result _ c.from_residual-in_err-record.ensures c.in_err-record.ensures.room
+returns-in_err-record-clause-read g c = read_then g.met.T.Table.stays_then c.in_ok-number.ensures.read c.in_err-record.ensures.read
 
 pub returns-in_err-record-clause-fault : goal.returns-in_err-record-clause-fault
 returns-in_err-record-clause-fault g c =
@@ -54,5 +41,4 @@ returns-in_err-record-clause-fault g c =
     (g.met.T.Table.fails_since _ _ _ _ (g.met.T.Table.stays_goes_on _ _ c.in_ok-number.ensures.read.stays) c.in_err-record.ensures.fault)
 
 pub returns-clause-read : goal.returns-clause-read
-returns-clause-read g c =
-    read_then g.met.T.Table.stays_then c.in_ok-number.ensures.read c.in_ok-record.ensures.read
+returns-clause-read g c = read_then g.met.T.Table.stays_then c.in_ok-number.ensures.read c.in_ok-record.ensures.read

@@ -1,12 +1,12 @@
 use Rattle.audit.specs.Causes.{HasWide}
-use Rattle.audit.specs.declared.fault.AuditFault.{AuditFault}
-use Rattle.audit.proofs.Passing.{passed_on, not_this, ok_differs, of_table_after}
-use Rattle.std.proofs.Common.{◌≡◌, ◌∙◌, ◌<◌, ap, subst, rules, ℕ, List, None, refl, true, eqb, length, slice_get, get_or, arith, Err}
+use Rattle.table.proofs.Exits.{passed_on}
+use Rattle.audit.proofs.Exits.{since}
+use Rattle.std.proofs.Common.{◌≡◌, ◌∙◌, ◌<◌, ap, subst, rules, ℕ, List, None, refl, true, eqb, length, slice_get, get_or, arith}
 use Rattle.std.proofs.lemmas.Option.{slice_get-get_or}
 use Rattle.retrograde.specs.declared.records.Counts.{Counts}
 use Rattle.retrograde.specs.View.{HasNumber}
 use Rattle.retrograde.specs.Stored.{Stored, IsTable, view_of, expanded_count, count_below}
-use Rattle.audit.specs.aid.Conditions.{IsLowest, IsFloor, own_condition, successors_in}
+use Rattle.audit.specs.lemmas.Conditions.{IsLowest, IsFloor, own_condition, successors_in}
 use Rattle.audit.proofs.FloorLemmas.{floor_of}
 use Rattle.audit.proofs.AnswerLemmas.{own_more}
 use Rattle.audit.proofs.SumLemmas.{sum_more, sums_right}
@@ -21,7 +21,8 @@ returns-clause-right g c = λ honest table floors is.
     let all : c.loop-number.number ≡ length stored.positions = omega (arith, read, count, c.loop-number-test.false, c.loop-number.auto.number-end) in
     let same : eqb c.loop-number.moves c.loop-number.edges ≡ true = cc in
     sums_right (g.M.GameGraph.graph c.args.source.now) (g.M.GameGraph.is_wide c.args.source.now) stored table c.loop-number.number all
-    (c.loop-number.invariant.sound honest table floors) c.loop-number.moves c.loop-number.edges (c.loop-number.invariant.moves honest) (c.loop-number.invariant.edges honest) same
+    (c.loop-number.invariant.sound honest table floors) c.loop-number.moves c.loop-number.edges (c.loop-number.invariant.moves honest)
+    (c.loop-number.invariant.edges honest) same
 
 pub loop-number-preserved : goal.loop-number-preserved
 loop-number-preserved g c = record {
@@ -31,14 +32,16 @@ loop-number-preserved g c = record {
   read = read_then g.met.T.Table.stays_then c.loop-number.invariant.read c.in_ok-tally.ensures.read;
   moves = λ honest.
       let h = c.loop-number.invariant.read.honest.0 honest in
-      let one = rw c.in-Some.is at c.in_ok-tally.ensures.moves h in
-      let one' = subst (λ (t : Stored (List ℕ)). c.in-Some.tally.moves ≡ successors_in (slice_get t.records c.loop-number.number)) (c.loop-number.invariant.read.same honest) one in
+      let one = (rw c.in-Some.is at c.in_ok-tally.ensures.tally h).moves in
+      let one' = subst (λ (t : Stored (List ℕ)). c.in-Some.tally.moves ≡ successors_in (slice_get t.records c.loop-number.number))
+      (c.loop-number.invariant.read.same honest) one in
       sum_more c.loop-number.number c.loop-number.moves c.from-moves.result (λ i. successors_in (slice_get (g.T.Table.stored c.args.table.now).records i))
       (c.loop-number.invariant.moves honest) (c.from-moves.ensures ∙ one');
   edges = λ honest.
       let h = c.loop-number.invariant.read.honest.0 honest in
-      let one = rw c.in-Some.is at c.in_ok-tally.ensures.edges h in
-      let one' = subst (λ (t : Stored (List ℕ)). c.in-Some.tally.edges ≡ count_below (length t.positions) (λ p. t.has_edge c.loop-number.number p)) (c.loop-number.invariant.read.same honest) one in
+      let one = (rw c.in-Some.is at c.in_ok-tally.ensures.tally h).edges in
+      let one' = subst (λ (t : Stored (List ℕ)). c.in-Some.tally.edges ≡ count_below (length t.positions)
+      (λ p. t.has_edge c.loop-number.number p)) (c.loop-number.invariant.read.same honest) one in
       sum_more c.loop-number.number c.loop-number.edges c.from-edges.result
       (λ i. count_below (length (g.T.Table.stored c.args.table.now).positions) (λ p. (g.T.Table.stored c.args.table.now).has_edge i p))
       (c.loop-number.invariant.edges honest) (c.from-edges.ensures ∙ one');
@@ -52,42 +55,26 @@ loop-number-preserved g c = record {
       let within : c.loop-number.number < length c.args.floors.now = omega (arith, read, c.requires.lengths, c.loop-number-test.true) in
       let floor = floor_of stored c.args.floors.now c.loop-number.number (get_or c.args.floors.now c.loop-number.number 0) floors
       (slice_get-get_or c.args.floors.now c.loop-number.number 0 within) in
-      let holds = rw c.in-Some.is at c.in_ok-tally.ensures.holds h in
+      let holds = (rw c.in-Some.is at c.in_ok-tally.ensures.tally h).holds in
       let holds' = subst (λ (t : Stored (List ℕ)). IsTable t → IsFloor t c.loop-number.number (get_or c.args.floors.now c.loop-number.number 0)
       → (x : List ℕ) → HasNumber (view_of t) c.loop-number.number x → IsLowest (own_condition graph t c.loop-number.number x) None) same holds in
-      let narrow = rw c.in-Some.is at c.in_ok-tally.ensures.narrow h in
+      let narrow = (rw c.in-Some.is at c.in_ok-tally.ensures.tally h).narrow in
       let narrow' = subst (λ (t : Stored (List ℕ)). (x : List ℕ) → HasNumber (view_of t) c.loop-number.number x
       → c.loop-number.number < expanded_count t → IsWide x → ⊥) same narrow in
       own_more graph IsWide stored c.loop-number.number (c.loop-number.invariant.sound honest table floors) (holds' table floor) narrow';
 }
 
 pub returns-in_err-tally-clause-read : goal.returns-in_err-tally-clause-read
-returns-in_err-tally-clause-read g c =
-    read_then g.met.T.Table.stays_then c.loop-number.invariant.read c.in_err-tally.ensures.read
+returns-in_err-tally-clause-read g c = read_then g.met.T.Table.stays_then c.loop-number.invariant.read c.in_err-tally.ensures.read
 
-pub returns-in_err-tally-clause-room : goal.returns-in_err-tally-clause-room
-returns-in_err-tally-clause-room g c =
-    passed_on _ c.from_residual.result _ c.from_residual.ensures c.in_err-tally.ensures.room
-
-pub returns-in_err-tally-clause-fault : goal.returns-in_err-tally-clause-fault
-returns-in_err-tally-clause-fault g c =
+pub returns-in_err-tally-clause-err : goal.returns-in_err-tally-clause-err
+returns-in_err-tally-clause-err g c =
     passed_on _ c.from_residual.result _ c.from_residual.ensures
-    (of_table_after _ _ _ (λ fault. g.met.T.Table.fails_since _ _ _ fault (g.met.T.Table.stays_goes_on _ _ c.loop-number.invariant.read.stays)) c.in_err-tally.ensures.fault)
-
-pub returns-in_err-tally-clause-wide : goal.returns-in_err-tally-clause-wide
-returns-in_err-tally-clause-wide g c =
-    λ honest is.
+    (since (λ wide honest.
     subst (λ (t : Stored (List ℕ)). HasWide (g.M.GameGraph.is_wide c.args.source.now) t) (c.loop-number.invariant.read.same honest)
-    (c.in_err-tally.ensures.wide (c.loop-number.invariant.read.honest.0 honest) (ap (λ (f : AuditFault). Err f) (not_this c.from_residual.result _ _ c.from_residual.ensures is)))
+    (wide (c.loop-number.invariant.read.honest.0 honest)))
+    (λ fault. g.met.T.Table.fails_since _ _ _ fault (g.met.T.Table.stays_goes_on _ _ c.loop-number.invariant.read.stays))
+    c.in_err-tally.ensures.err)
 
 pub returns-in_default-clause-read : goal.returns-in_default-clause-read
-returns-in_default-clause-read g c =
-    read_then g.met.T.Table.stays_then c.loop-number.invariant.read c.in_ok-tally.ensures.read
-
-pub returns-in_default-clause-wide : goal.returns-in_default-clause-wide
-returns-in_default-clause-wide g c =
-    λ honest is. absurd (ok_differs _ _ is)
-
-pub returns-clause-wide : goal.returns-clause-wide
-returns-clause-wide g c =
-    λ honest is. absurd (ok_differs _ _ is)
+returns-in_default-clause-read g c = read_then g.met.T.Table.stays_then c.loop-number.invariant.read c.in_ok-tally.ensures.read

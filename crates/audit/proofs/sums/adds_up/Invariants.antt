@@ -1,6 +1,6 @@
 use Rattle.std.proofs.Common.{◌≡◌, ◌≤◌, ◌*◌, length, slice_get}
 use Rattle.retrograde.specs.Stored.{IsTable, count_below}
-use Rattle.audit.specs.aid.Conditions.{AreFloors, sum_below, successors_in}
+use Rattle.audit.specs.lemmas.Conditions.{AreFloors, sum_below, successors_in}
 use Rattle.audit.proofs.AnswerLemmas.{OwnSound}
 use Rattle.table.specs.Frames.{IsRead}
 use Rattle.audit.proofs.sums.adds_up.Given as goal

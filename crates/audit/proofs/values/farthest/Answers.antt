@@ -1,7 +1,7 @@
 use Rattle.std.proofs.Common.{◌∙◌, sym, subst, Some, List, take}
 use Rattle.std.proofs.lemmas.List.{take_more, take_all}
 use Rattle.retrograde.specs.declared.records.Record.{Record}
-use Rattle.audit.specs.aid.Records.{IsFarthest}
+use Rattle.audit.specs.lemmas.Records.{IsFarthest}
 use Rattle.audit.proofs.ValueLemmas.{farthest_push, farthest_done, IsFarthestSoFar}
 use Rattle.audit.proofs.values.farthest.Goals as goal
 
@@ -14,4 +14,5 @@ loop-kept-preserved c =
 pub returns : goal.returns
 returns c =
     farthest_done c.args.records.now c.loop-kept.most
-    (subst (λ (rs : List Record). IsFarthestSoFar rs c.loop-kept.most) (take_all c.loop-kept.kept-index c.args.records.now c.loop-kept-test.false) c.loop-kept.invariant)
+    (subst (λ (rs : List Record). IsFarthestSoFar rs c.loop-kept.most)
+    (take_all c.loop-kept.kept-index c.args.records.now c.loop-kept-test.false) c.loop-kept.invariant)

@@ -1,5 +1,5 @@
 use Rattle.std.proofs.Common.{take}
-use Rattle.audit.specs.aid.Records.{IsNearest}
+use Rattle.audit.specs.lemmas.Records.{IsNearest}
 use Rattle.audit.proofs.values.nearest.Given as goal
 
 abbrev pub invariant-loop-kept : goal.invariant-loop-kept

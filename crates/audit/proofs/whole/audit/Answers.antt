@@ -1,14 +1,15 @@
 use Rattle.audit.specs.Causes.{HasWide}
-use Rattle.audit.proofs.Passing.{passed_on, not_this, ok_differs, of_table_after}
-use Rattle.std.proofs.Common.{◌≡◌, ◌∙◌, subst, ℕ, List, Bool, true, length, ap, Err}
+use Rattle.table.proofs.Exits.{not_this, passed_on}
+use Rattle.audit.proofs.Exits.{of_table_after}
+use Rattle.std.proofs.Common.{◌≡◌, ◌∙◌, subst, ℕ, List, Bool, true, length}
 use Rattle.std.specs.Prelude.{IfOk, Ok}
 use Rattle.std.specs.declared.result.Result.{Result}
 use Rattle.retrograde.specs.Stored.{Stored, IsTable, expanded_count}
 use Rattle.audit.specs.declared.verdict.Verdict.TheVariants.{Right}
 use Rattle.audit.specs.declared.fault.AuditFault.{AuditFault}
 use Rattle.audit.specs.Answers.{IsAnswer}
-use Rattle.audit.specs.aid.Conditions.{AreFloors}
-use Rattle.audit.specs.aid.Edges.{AreArrivals}
+use Rattle.audit.specs.lemmas.Conditions.{AreFloors}
+use Rattle.audit.specs.lemmas.Edges.{AreArrivals}
 use Rattle.audit.proofs.AnswerLemmas.{right_sound, right_so}
 use Rattle.table.proofs.Frames.{read_then}
 use Rattle.audit.proofs.whole.audit.Goals as goal
@@ -101,45 +102,29 @@ returns-clause-so g c = λ honest table is.
     (c.in_ok-arrivals.ensures.read.same h2 ∙ same2) (rw (c.deref-2.ensures.value, c.deref-3.ensures.value) at c.first_wrong.ensures.answer h3) in
     right_so graph IsWide stored table (rw is at answer table (c.in_ok-floors.ensures.floors honest table) (arrivals table))
 
-pub returns-in_err-floors-clause-room : goal.returns-in_err-floors-clause-room
-returns-in_err-floors-clause-room g c =
-    passed_on _ c.from_residual.result _ c.from_residual.ensures c.in_err-floors.ensures.room
-
-pub returns-in_err-floors-clause-fault : goal.returns-in_err-floors-clause-fault
-returns-in_err-floors-clause-fault g c =
-    passed_on _ c.from_residual.result _ c.from_residual.ensures
-    c.in_err-floors.ensures.fault
-
 pub returns-in_err-floors-clause-wide : goal.returns-in_err-floors-clause-wide
 returns-in_err-floors-clause-wide g c =
-    λ honest is. absurd (c.in_err-floors.ensures.narrow (not_this c.from_residual.result _ _ c.from_residual.ensures is))
+    λ honest is. absurd (c.in_err-floors.ensures.err.wide (not_this c.from_residual.result _ _ c.from_residual.ensures is))
 
 pub returns-in_err-adds_up-clause-read : goal.returns-in_err-adds_up-clause-read
-returns-in_err-adds_up-clause-read g c =
-    read_then g.met.T.Table.stays_then c.in_ok-floors.ensures.read c.in_err-adds_up.ensures.read
-
-pub returns-in_err-adds_up-clause-room : goal.returns-in_err-adds_up-clause-room
-returns-in_err-adds_up-clause-room g c =
-    passed_on _ c.from_residual-in_err-adds_up.result _ c.from_residual-in_err-adds_up.ensures c.in_err-adds_up.ensures.room
+returns-in_err-adds_up-clause-read g c = read_then g.met.T.Table.stays_then c.in_ok-floors.ensures.read c.in_err-adds_up.ensures.read
 
 pub returns-in_err-adds_up-clause-fault : goal.returns-in_err-adds_up-clause-fault
 returns-in_err-adds_up-clause-fault g c =
     passed_on _ c.from_residual-in_err-adds_up.result _ c.from_residual-in_err-adds_up.ensures
-    (of_table_after _ _ _ (λ fault. g.met.T.Table.fails_since _ _ _ fault (g.met.T.Table.stays_goes_on _ _ c.in_ok-floors.ensures.read.stays)) c.in_err-adds_up.ensures.fault)
+    (of_table_after _ _ _
+    (λ fault. g.met.T.Table.fails_since _ _ _ fault
+    (g.met.T.Table.stays_goes_on _ _ c.in_ok-floors.ensures.read.stays)) c.in_err-adds_up.ensures.err.fault)
 
 pub returns-in_err-adds_up-clause-wide : goal.returns-in_err-adds_up-clause-wide
 returns-in_err-adds_up-clause-wide g c =
     λ honest is.
     subst (λ (t : Stored (List ℕ)). HasWide (g.M.GameGraph.is_wide c.args.source.now) t) (c.in_ok-floors.ensures.read.same honest)
-    (c.in_err-adds_up.ensures.wide (c.in_ok-floors.ensures.read.honest.0 honest) (ap (λ (f : AuditFault). Err f) (not_this c.from_residual-in_err-adds_up.result _ _ c.from_residual-in_err-adds_up.ensures is)))
+    (c.in_err-adds_up.ensures.err.wide
+    (not_this c.from_residual-in_err-adds_up.result _ _ c.from_residual-in_err-adds_up.ensures is) (c.in_ok-floors.ensures.read.honest.0 honest))
 
 pub returns-then-branch-clause-read : goal.returns-then-branch-clause-read
-returns-then-branch-clause-read g c =
-    read_then g.met.T.Table.stays_then c.in_ok-floors.ensures.read c.in_ok-adds_up.ensures.read
-
-pub returns-then-branch-clause-wide : goal.returns-then-branch-clause-wide
-returns-then-branch-clause-wide g c =
-    λ honest is. absurd (ok_differs _ _ is)
+returns-then-branch-clause-read g c = read_then g.met.T.Table.stays_then c.in_ok-floors.ensures.read c.in_ok-adds_up.ensures.read
 
 pub returns-in_err-arrivals-clause-read : goal.returns-in_err-arrivals-clause-read
 returns-in_err-arrivals-clause-read g c =
@@ -147,21 +132,22 @@ returns-in_err-arrivals-clause-read g c =
     (read_then g.met.T.Table.stays_then c.in_ok-floors.ensures.read c.in_ok-adds_up.ensures.read)
     c.in_err-arrivals.ensures.read
 
-pub returns-in_err-arrivals-clause-room : goal.returns-in_err-arrivals-clause-room
-returns-in_err-arrivals-clause-room g c =
-    passed_on _ c.from_residual-in_err-arrivals.result _ c.from_residual-in_err-arrivals.ensures c.in_err-arrivals.ensures.room
-
 pub returns-in_err-arrivals-clause-fault : goal.returns-in_err-arrivals-clause-fault
 returns-in_err-arrivals-clause-fault g c =
     passed_on _ c.from_residual-in_err-arrivals.result _ c.from_residual-in_err-arrivals.ensures
-    (of_table_after _ _ _ (λ fault. g.met.T.Table.fails_since _ _ _ fault (g.met.T.Table.stays_goes_on _ _ (g.met.T.Table.stays_then _ _ _ c.in_ok-floors.ensures.read.stays c.in_ok-adds_up.ensures.read.stays))) c.in_err-arrivals.ensures.fault)
+    (of_table_after _ _ _
+    (λ fault. g.met.T.Table.fails_since _ _ _ fault
+    (g.met.T.Table.stays_goes_on _ _ (g.met.T.Table.stays_then _ _ _ c.in_ok-floors.ensures.read.stays c.in_ok-adds_up.ensures.read.stays)))
+    c.in_err-arrivals.ensures.err.fault)
 
 pub returns-in_err-arrivals-clause-wide : goal.returns-in_err-arrivals-clause-wide
 returns-in_err-arrivals-clause-wide g c =
     λ honest is.
     let h1 = c.in_ok-floors.ensures.read.honest.0 honest in
-    subst (λ (t : Stored (List ℕ)). HasWide (g.M.GameGraph.is_wide c.args.source.now) t) (c.in_ok-adds_up.ensures.read.same h1 ∙ c.in_ok-floors.ensures.read.same honest)
-    (c.in_err-arrivals.ensures.wide (c.in_ok-adds_up.ensures.read.honest.0 h1) (ap (λ (f : AuditFault). Err f) (not_this c.from_residual-in_err-arrivals.result _ _ c.from_residual-in_err-arrivals.ensures is)))
+    subst (λ (t : Stored (List ℕ)). HasWide (g.M.GameGraph.is_wide c.args.source.now) t)
+    (c.in_ok-adds_up.ensures.read.same h1 ∙ c.in_ok-floors.ensures.read.same honest)
+    (c.in_err-arrivals.ensures.err.wide
+    (not_this c.from_residual-in_err-arrivals.result _ _ c.from_residual-in_err-arrivals.ensures is) (c.in_ok-adds_up.ensures.read.honest.0 h1))
 
 pub returns-clause-read : goal.returns-clause-read
 returns-clause-read g c =

@@ -1,7 +1,7 @@
 use Rattle.std.proofs.Common.{◌≡◌, length}
 use Rattle.retrograde.specs.Stored.{IsTable, expanded_count}
-use Rattle.audit.specs.aid.Conditions.{AreFloors}
-use Rattle.audit.specs.aid.Edges.{AreArrivals}
+use Rattle.audit.specs.lemmas.Conditions.{AreFloors}
+use Rattle.audit.specs.lemmas.Edges.{AreArrivals}
 use Rattle.audit.proofs.AnswerLemmas.{AreSound}
 use Rattle.table.specs.Frames.{IsRead}
 use Rattle.audit.proofs.whole.first_wrong.Given as goal

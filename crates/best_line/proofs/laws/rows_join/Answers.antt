@@ -1,4 +1,4 @@
-use Rattle.best_line.proofs.Joining.{rows_join}
+use Rattle.best_line.proofs.RowLists.{rows_join}
 use Rattle.best_line.proofs.laws.rows_join.Goals as goal
 
 pub returns : goal.returns

@@ -14,7 +14,8 @@ use Rattle.best_line.proofs.laws.values_are_so.Goals as goal
 so : (graph : Graph (List ℕ)) (IsWide : List ℕ → Type 0) (stored : Stored (List ℕ)) (i : ℕ) (x : List ℕ) (value : Value)
     → IsLocallySound graph IsWide stored → HasNumber (view_of stored) i x → IsValue (view_of stored) i value → IsSo graph x value
 so graph IsWide stored i x (Won w n) sound number is = values_are_won graph (view_of stored) (sound_right graph IsWide stored sound) x w n (i, number, is)
-so graph IsWide stored i x Drawn sound number (none, finished) = (draws graph (view_of stored) (sound_right graph IsWide stored sound) finished i x number).0 none
+so graph IsWide stored i x Drawn sound number (none, finished) =
+    (draws graph (view_of stored) (sound_right graph IsWide stored sound) finished i x number).0 none
 so graph IsWide stored i x Open sound number is = tt
 
 pub returns : goal.returns

@@ -3,11 +3,11 @@ use Rattle.position_pack.specs.Packings.{IsPacked}
 use Rattle.retrograde.specs.Stored.{Stored, IsTable, view_of}
 use Rattle.legal_moves.specs.Compiled.{compiled_game, packing_kind}
 use Rattle.legal_moves.specs.declared.fault.MoveFault.{MoveFault}
-use Rattle.legal_moves.proofs.SourceLemmas.{at_by_packed, packed_by_at}
+use Rattle.legal_moves.proofs.answers.SourceLemmas.{at_by_packed, packed_by_at}
 use Rattle.table.proofs.Frames.{read_then}
-use Rattle.best_line.proofs.Passing.{passed_on, not_this, ok_differs}
-use Rattle.best_line.specs.aid.Found.{AreToldMoves}
-use Rattle.best_line.proofs.FaultLemmas.{inconsistent_is_narrow, of_table_after, search_is_consistent, search_is_wide, search_of_none, table_is_none}
+use Rattle.table.proofs.Exits.{not_this}
+use Rattle.best_line.specs.lemmas.Found.{AreToldMoves}
+use Rattle.best_line.proofs.FaultLemmas.{search_is_wide}
 use Rattle.best_line.proofs.FoundLemmas.{are_successors, each_known, positions_of}
 use Rattle.best_line.proofs.moves.known_moves.Goals as goal
 
@@ -16,7 +16,8 @@ moves-requires g c =
     let v = c.args.compiled.now in
     let x = c.in_ok-packed.packed.items in
     let form = c.packing.ensures in
-    let here = at_by_packed (packing_kind v) (compiled_game v) c.packing.result.now x c.in-Some.at form (subst (IsPacked c.packing.result.now c.in-Some.at) c.deref.ensures.0 c.in-Some.ensures) in
+    let here = at_by_packed (packing_kind v) (compiled_game v) c.packing.result.now x c.in-Some.at form
+    (subst (IsPacked c.packing.result.now c.in-Some.at) c.deref.ensures.0 c.in-Some.ensures) in
     record { at = here.position_is }
 
 pub told_moves-requires-clause-positions : goal.told_moves-requires-clause-positions
@@ -24,7 +25,8 @@ told_moves-requires-clause-positions g c =
     let v = c.args.compiled.now in
     let x = c.in_ok-packed.packed.items in
     let form = c.packing.ensures in
-    let here = at_by_packed (packing_kind v) (compiled_game v) c.packing.result.now x c.in-Some.at form (subst (IsPacked c.packing.result.now c.in-Some.at) c.deref.ensures.0 c.in-Some.ensures) in
+    let here = at_by_packed (packing_kind v) (compiled_game v) c.packing.result.now x c.in-Some.at form
+    (subst (IsPacked c.packing.result.now c.in-Some.at) c.deref.ensures.0 c.in-Some.ensures) in
     positions_of (compiled_game v) c.in-Some.at c.in_ok-found.found c.requires.compiled.sound here.position_is c.in_ok-found.ensures.exact.words
 
 pub returns-clause-moves : goal.returns-clause-moves
@@ -32,7 +34,8 @@ returns-clause-moves g c = λ honest table.
     let v = c.args.compiled.now in
     let x = c.in_ok-packed.packed.items in
     let form = c.packing.ensures in
-    let here = at_by_packed (packing_kind v) (compiled_game v) c.packing.result.now x c.in-Some.at form (subst (IsPacked c.packing.result.now c.in-Some.at) c.deref.ensures.0 c.in-Some.ensures) in
+    let here = at_by_packed (packing_kind v) (compiled_game v) c.packing.result.now x c.in-Some.at form
+    (subst (IsPacked c.packing.result.now c.in-Some.at) c.deref.ensures.0 c.in-Some.ensures) in
     let h = c.in_ok-packed.ensures.read.honest.0 honest in
     let same = c.in_ok-packed.ensures.read.same honest in
     let table' = subst (λ (t : Stored (List ℕ)). IsTable t) (sym same) table in
@@ -40,7 +43,8 @@ returns-clause-moves g c = λ honest table.
     let game = compiled_game v in
     let view = view_of (g.T.Table.stored c.args.table.now) in
     let told =
-    subst (λ (t : Stored (List ℕ)). AreToldMoves kind game (view_of t) c.in_ok-found.found c.in_ok-moves.moves.items) same (c.in_ok-moves.ensures.told h table') in
+    subst (λ (t : Stored (List ℕ)). AreToldMoves kind game (view_of t) c.in_ok-found.found c.in_ok-moves.moves.items) same
+    (c.in_ok-moves.ensures.told h table') in
     record {
       bytes = x;
       number_is = c.in_ok-packed.ensures.position honest;
@@ -63,63 +67,15 @@ returns-in_default-clause-none g c = λ honest is.
           (packed_by_at (packing_kind v) (compiled_game v) c.packing.result.now x position.0 c.packing.ensures position.1)),
     )
 
-pub returns-in_default-clause-wide : goal.returns-in_default-clause-wide
-returns-in_default-clause-wide g c = λ honest is. absurd (inconsistent_is_narrow is)
-
-pub returns-in_err-packed-clause-none : goal.returns-in_err-packed-clause-none
-returns-in_err-packed-clause-none g c = λ honest is. absurd ((table_is_none _).0 (not_this c.from_residual.result _ _ c.from_residual.ensures is))
-
-pub returns-in_err-packed-clause-wide : goal.returns-in_err-packed-clause-wide
-returns-in_err-packed-clause-wide g c = λ honest is. absurd ((table_is_none _).1 (not_this c.from_residual.result _ _ c.from_residual.ensures is))
-
-pub returns-in_err-packed-clause-room : goal.returns-in_err-packed-clause-room
-returns-in_err-packed-clause-room g c = passed_on _ c.from_residual.result _ c.from_residual.ensures c.in_err-packed.ensures.room
-
-pub returns-in_err-packed-clause-fault : goal.returns-in_err-packed-clause-fault
-returns-in_err-packed-clause-fault g c = passed_on _ c.from_residual.result _ c.from_residual.ensures c.in_err-packed.ensures.fault
-
-pub returns-in_err-found-clause-none : goal.returns-in_err-found-clause-none
-returns-in_err-found-clause-none g c = λ honest is. absurd (search_is_consistent _ (not_this c.from_residual-in_err-found.result _ _ c.from_residual-in_err-found.ensures is))
-
 pub returns-in_err-found-clause-wide : goal.returns-in_err-found-clause-wide
 returns-in_err-found-clause-wide g c = λ honest is.
     let v = c.args.compiled.now in
     let x = c.in_ok-packed.packed.items in
     let form = c.packing.ensures in
-    let here = at_by_packed (packing_kind v) (compiled_game v) c.packing.result.now x c.in-Some.at form (subst (IsPacked c.packing.result.now c.in-Some.at) c.deref.ensures.0 c.in-Some.ensures) in
+    let here = at_by_packed (packing_kind v) (compiled_game v) c.packing.result.now x c.in-Some.at form
+    (subst (IsPacked c.packing.result.now c.in-Some.at) c.deref.ensures.0 c.in-Some.ensures) in
     let wide = search_is_wide _ (not_this c.from_residual-in_err-found.result _ _ c.from_residual-in_err-found.ensures is) in
     (x, c.in_ok-packed.ensures.position honest, (c.in-Some.at, here, c.in_err-found.ensures.wide (ap (λ (f : MoveFault). Err f) wide)))
 
-pub returns-in_err-found-clause-room : goal.returns-in_err-found-clause-room
-returns-in_err-found-clause-room g c = passed_on _ c.from_residual-in_err-found.result _ c.from_residual-in_err-found.ensures (search_of_none _ _)
-
-pub returns-in_err-found-clause-fault : goal.returns-in_err-found-clause-fault
-returns-in_err-found-clause-fault g c = passed_on _ c.from_residual-in_err-found.result _ c.from_residual-in_err-found.ensures (search_of_none _ _)
-
-pub returns-in_err-moves-clause-none : goal.returns-in_err-moves-clause-none
-returns-in_err-moves-clause-none g c = λ honest is. absurd (c.in_err-moves.ensures.searched.0 (not_this c.from_residual-in_err-moves.result _ _ c.from_residual-in_err-moves.ensures is))
-
-pub returns-in_err-moves-clause-wide : goal.returns-in_err-moves-clause-wide
-returns-in_err-moves-clause-wide g c = λ honest is. absurd (c.in_err-moves.ensures.searched.1 (not_this c.from_residual-in_err-moves.result _ _ c.from_residual-in_err-moves.ensures is))
-
-pub returns-in_err-moves-clause-room : goal.returns-in_err-moves-clause-room
-returns-in_err-moves-clause-room g c = passed_on _ c.from_residual-in_err-moves.result _ c.from_residual-in_err-moves.ensures c.in_err-moves.ensures.room
-
-pub returns-in_err-moves-clause-fault : goal.returns-in_err-moves-clause-fault
-returns-in_err-moves-clause-fault g c =
-    passed_on _ c.from_residual-in_err-moves.result _ c.from_residual-in_err-moves.ensures
-    (of_table_after _ _ _ (λ f fails. g.met.T.Table.fails_since _ _ _ _ (g.met.T.Table.stays_goes_on _ _ c.in_ok-packed.ensures.read.stays) fails) c.in_err-moves.ensures.fault)
-
-pub returns-clause-none : goal.returns-clause-none
-returns-clause-none g c = λ honest is. absurd (ok_differs _ _ is)
-
-pub returns-clause-wide : goal.returns-clause-wide
-returns-clause-wide g c = λ honest is. absurd (ok_differs _ _ is)
-
-pub returns-in_err-moves-clause-read : goal.returns-in_err-moves-clause-read
-returns-in_err-moves-clause-read g c =
-    read_then g.met.T.Table.stays_then c.in_ok-packed.ensures.read c.in_err-moves.ensures.read
-
 pub returns-clause-read : goal.returns-clause-read
-returns-clause-read g c =
-    read_then g.met.T.Table.stays_then c.in_ok-packed.ensures.read c.in_ok-moves.ensures.read
+returns-clause-read g c = read_then g.met.T.Table.stays_then c.in_ok-packed.ensures.read c.in_ok-moves.ensures.read

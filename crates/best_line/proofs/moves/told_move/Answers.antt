@@ -6,8 +6,6 @@ use Rattle.position_pack.specs.Packings.{Form, packed_by}
 use Rattle.position_pack.specs.Texts.{text_of}
 use Rattle.retrograde.specs.Stored.{view_of}
 use Rattle.legal_moves.specs.Compiled.{compiled_game, packing_kind}
-use Rattle.best_line.proofs.Passing.{passed_on}
-use Rattle.best_line.proofs.FaultLemmas.{memory_is_none, table_is_none}
 use Rattle.best_line.proofs.FoundLemmas.{position_found, told_is}
 use Rattle.best_line.proofs.moves.told_move.Goals as goal
 
@@ -25,30 +23,3 @@ returns-clause-told g c = λ honest table.
     told_is (packing_kind c.args.compiled.now) game (view_of (g.T.Table.stored c.args.table.now)) _ c.successor_of-next.result _ c.successor_of-next.ensures
     c.in_ok-word.ensures (c.pack-packed.ensures ∙ ap (λ (f : Form). packed_by f.kind f.shape c.successor_of-next.result) c.packing.ensures)
     (c.in_ok-text.ensures ∙ ap (λ (g : Game). text_of g c.successor_of-next.result) c.game.ensures) (c.in_ok-told.ensures.told honest table)
-
-pub returns-in_err-word-clause-room : goal.returns-in_err-word-clause-room
-returns-in_err-word-clause-room g c = passed_on _ c.from_residual.result _ c.from_residual.ensures tt
-
-pub returns-in_err-word-clause-fault : goal.returns-in_err-word-clause-fault
-returns-in_err-word-clause-fault g c = passed_on _ c.from_residual.result _ c.from_residual.ensures tt
-
-pub returns-in_err-word-clause-searched : goal.returns-in_err-word-clause-searched
-returns-in_err-word-clause-searched g c = passed_on _ c.from_residual.result _ c.from_residual.ensures memory_is_none
-
-pub returns-in_err-text-clause-room : goal.returns-in_err-text-clause-room
-returns-in_err-text-clause-room g c = passed_on _ c.from_residual-in_err-text.result _ c.from_residual-in_err-text.ensures tt
-
-pub returns-in_err-text-clause-fault : goal.returns-in_err-text-clause-fault
-returns-in_err-text-clause-fault g c = passed_on _ c.from_residual-in_err-text.result _ c.from_residual-in_err-text.ensures tt
-
-pub returns-in_err-text-clause-searched : goal.returns-in_err-text-clause-searched
-returns-in_err-text-clause-searched g c = passed_on _ c.from_residual-in_err-text.result _ c.from_residual-in_err-text.ensures memory_is_none
-
-pub returns-in_err-told-clause-room : goal.returns-in_err-told-clause-room
-returns-in_err-told-clause-room g c = passed_on _ c.from_residual-in_err-told.result _ c.from_residual-in_err-told.ensures c.in_err-told.ensures.room
-
-pub returns-in_err-told-clause-fault : goal.returns-in_err-told-clause-fault
-returns-in_err-told-clause-fault g c = passed_on _ c.from_residual-in_err-told.result _ c.from_residual-in_err-told.ensures c.in_err-told.ensures.fault
-
-pub returns-in_err-told-clause-searched : goal.returns-in_err-told-clause-searched
-returns-in_err-told-clause-searched g c = passed_on _ c.from_residual-in_err-told.result _ c.from_residual-in_err-told.ensures (table_is_none _)

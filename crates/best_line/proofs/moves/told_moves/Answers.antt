@@ -4,10 +4,9 @@ use Rattle.std.proofs.lemmas.List.{length_push}
 use Rattle.retrograde.specs.Stored.{Stored, IsTable, view_of}
 use Rattle.legal_moves.specs.Compiled.{compiled_game, packing_kind}
 use Rattle.best_line.proofs.ListLemmas.{each_push}
-use Rattle.best_line.proofs.Passing.{passed_on, nothing_at}
-use Rattle.best_line.specs.aid.Found.{IsToldMove}
+use Rattle.best_line.proofs.Exits.{nothing_at}
+use Rattle.best_line.specs.lemmas.Found.{IsToldMove}
 use Rattle.best_line.specs.declared.known.KnownMove.{KnownMove}
-use Rattle.best_line.proofs.FaultLemmas.{memory_is_none, of_table_after}
 use Rattle.table.proofs.Frames.{unread, read_then}
 use Rattle.best_line.proofs.moves.told_moves.Goals as goal
 
@@ -23,7 +22,8 @@ pub loop-k-preserved : goal.loop-k-preserved
 loop-k-preserved g c = record {
   read = read_then g.met.T.Table.stays_then c.loop-k.invariant.read c.in_ok-one.ensures.read;
   lengths =
-      let one : length c.push.new.self.items ≡ length c.loop-k.known.items + 1 = ap (λ (moves : List KnownMove). length moves) c.in_ok-push.ensures.items ∙ length_push c.loop-k.known.items _ in
+      let one : length c.push.new.self.items ≡ length c.loop-k.known.items + 1 = ap
+      (λ (moves : List KnownMove). length moves) c.in_ok-push.ensures.items ∙ length_push c.loop-k.known.items _ in
       omega (arith, c.loop-k.invariant.lengths);
   told = λ honest table.
       let h = c.loop-k.invariant.read.honest.0 honest in
@@ -48,31 +48,3 @@ returns-clause-told g c = λ honest table. record {
   as_many = omega (arith, c.loop-k.invariant.lengths, c.loop-k-test.false, c.loop-k.auto.k-end, c.len-k-end.ensures);
   each = c.loop-k.invariant.told honest table;
 }
-
-pub returns-in_err-one-clause-read : goal.returns-in_err-one-clause-read
-returns-in_err-one-clause-read g c =
-    read_then g.met.T.Table.stays_then c.loop-k.invariant.read c.in_err-one.ensures.read
-
-pub returns-in_err-one-clause-room : goal.returns-in_err-one-clause-room
-returns-in_err-one-clause-room g c = passed_on _ c.from_residual.result _ c.from_residual.ensures c.in_err-one.ensures.room
-
-pub returns-in_err-one-clause-searched : goal.returns-in_err-one-clause-searched
-returns-in_err-one-clause-searched g c = passed_on _ c.from_residual.result _ c.from_residual.ensures c.in_err-one.ensures.searched
-
-pub returns-in_err-one-clause-fault : goal.returns-in_err-one-clause-fault
-returns-in_err-one-clause-fault g c =
-    passed_on _ c.from_residual.result _ c.from_residual.ensures
-    (of_table_after _ _ _ (λ f fails. g.met.T.Table.fails_since _ _ _ _ (g.met.T.Table.stays_goes_on _ _ c.loop-k.invariant.read.stays) fails) c.in_err-one.ensures.fault)
-
-pub returns-in_err-push-clause-read : goal.returns-in_err-push-clause-read
-returns-in_err-push-clause-read g c =
-    read_then g.met.T.Table.stays_then c.loop-k.invariant.read c.in_ok-one.ensures.read
-
-pub returns-in_err-push-clause-room : goal.returns-in_err-push-clause-room
-returns-in_err-push-clause-room g c = passed_on _ c.from_residual-in_err-push.result _ c.from_residual-in_err-push.ensures tt
-
-pub returns-in_err-push-clause-fault : goal.returns-in_err-push-clause-fault
-returns-in_err-push-clause-fault g c = passed_on _ c.from_residual-in_err-push.result _ c.from_residual-in_err-push.ensures tt
-
-pub returns-in_err-push-clause-searched : goal.returns-in_err-push-clause-searched
-returns-in_err-push-clause-searched g c = passed_on _ c.from_residual-in_err-push.result _ c.from_residual-in_err-push.ensures memory_is_none

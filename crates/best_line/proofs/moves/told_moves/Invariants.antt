@@ -2,7 +2,7 @@ use Rattle.std.proofs.Common.{◌≡◌, ℕ, Some, length, slice_get}
 use Rattle.std.specs.Prelude.{IfSome}
 use Rattle.retrograde.specs.Stored.{IsTable, view_of}
 use Rattle.legal_moves.specs.Compiled.{compiled_game, packing_kind}
-use Rattle.best_line.specs.aid.Found.{IsToldMove}
+use Rattle.best_line.specs.lemmas.Found.{IsToldMove}
 use Rattle.best_line.specs.declared.known.KnownMove.{KnownMove}
 use Rattle.table.specs.Frames.{IsRead}
 use Rattle.best_line.proofs.moves.told_moves.Given as goal

@@ -5,7 +5,7 @@ use Rattle.retrograde.specs.Stored.{Stored, IsTable, view_of}
 use Rattle.best_line.specs.declared.answers.Row.{Row}
 use Rattle.best_line.specs.Values.{IsValue}
 use Rattle.table.proofs.Frames.{unread, read_then}
-use Rattle.best_line.proofs.Passing.{passed_on, memory_needs_none, nothing_at, so_many, below_known}
+use Rattle.best_line.proofs.Exits.{nothing_at, so_many, below_known}
 use Rattle.best_line.proofs.ListLemmas.{each_push}
 use Rattle.best_line.proofs.rows.list.Goals as goal
 
@@ -13,17 +13,20 @@ pub loop-number-preserved : goal.loop-number-preserved
 loop-number-preserved g c = record {
   read = read_then g.met.T.Table.stays_then c.loop-number.invariant.read c.in_ok-value.ensures.read;
   lengths =
-      let one : length c.push.new.self.items ≡ length c.loop-number.rows.items + 1 = ap (λ (rows : List Row). length rows) c.in_ok-push.ensures.items ∙ length_push c.loop-number.rows.items _ in
+      let one : length c.push.new.self.items ≡ length c.loop-number.rows.items + 1 = ap
+      (λ (rows : List Row). length rows) c.in_ok-push.ensures.items ∙ length_push c.loop-number.rows.items _ in
       omega (arith, c.loop-number.invariant.lengths);
   numbers =
       each_push (λ (k : ℕ) (row : Row). row.number ≡ c.args.from + k) c.loop-number.rows.items c.push.new.self.items
-      (record { number = c.loop-number.number; value = c.in_ok-value.value }) c.in_ok-push.ensures.items c.loop-number.invariant.numbers (sym c.loop-number.invariant.lengths);
+      (record { number = c.loop-number.number; value = c.in_ok-value.value }) c.in_ok-push.ensures.items c.loop-number.invariant.numbers
+      (sym c.loop-number.invariant.lengths);
   values = λ honest table.
       let h = c.loop-number.invariant.read.honest.0 honest in
       let same = c.loop-number.invariant.read.same honest in
       let table' = subst (λ (t : Stored (List ℕ)). IsTable t) (sym same) table in
       let now = subst (λ (t : Stored (List ℕ)). IsValue (view_of t) c.loop-number.number c.in_ok-value.value) same (c.in_ok-value.ensures.value h table') in
-      each_push (λ (k : ℕ) (row : Row). IsValue (view_of (g.T.Table.stored c.args.table.now)) row.number row.value) c.loop-number.rows.items c.push.new.self.items
+      each_push (λ (k : ℕ) (row : Row). IsValue
+      (view_of (g.T.Table.stored c.args.table.now)) row.number row.value) c.loop-number.rows.items c.push.new.self.items
       (record { number = c.loop-number.number; value = c.in_ok-value.value }) c.in_ok-push.ensures.items (c.loop-number.invariant.values honest table) now;
 }
 
@@ -36,28 +39,12 @@ loop-number-init g c =
       values = λ h table k row at. absurd (nothing_at c.new-rows.result.items c.new-rows.ensures.items k row at);
     }
 
-pub returns-in_err-value-clause-room : goal.returns-in_err-value-clause-room
-returns-in_err-value-clause-room g c =
-    passed_on _ c.from_residual.result _ c.from_residual.ensures c.in_err-value.ensures.room
-
-pub returns-in_err-value-clause-fault : goal.returns-in_err-value-clause-fault
-returns-in_err-value-clause-fault g c =
-    passed_on _ c.from_residual.result _ c.from_residual.ensures
-    (g.met.T.Table.fails_since _ _ _ _ (g.met.T.Table.stays_goes_on _ _ c.loop-number.invariant.read.stays) c.in_err-value.ensures.fault)
-
-pub returns-in_err-push-clause-room : goal.returns-in_err-push-clause-room
-returns-in_err-push-clause-room g c =
-    passed_on _ c.from_residual-in_err-push.result _ c.from_residual-in_err-push.ensures memory_needs_none
-
-pub returns-in_err-push-clause-fault : goal.returns-in_err-push-clause-fault
-returns-in_err-push-clause-fault g c =
-    passed_on _ c.from_residual-in_err-push.result _ c.from_residual-in_err-push.ensures (g.met.T.Table.memory_fails _ _ (g.met.T.Table.stays_goes_on _ _ (g.met.T.Table.stays_then _ _ _ c.loop-number.invariant.read.stays c.in_ok-value.ensures.read.stays)))
-
 pub returns-clause-rows : goal.returns-clause-rows
 returns-clause-rows g c =
     λ honest table. record {
       all =
-          subst (λ (n : ℕ). length c.loop-number.rows.items ≡ min c.args.count (n - c.args.from)) (ap (λ (k : Counts). k.known) (g.met.T.Table.counts_are _ honest))
+          subst (λ (n : ℕ). length c.loop-number.rows.items ≡ min c.args.count (n - c.args.from))
+          (ap (λ (k : Counts). k.known) (g.met.T.Table.counts_are _ honest))
           (so_many c.args.from c.min.result (length c.loop-number.rows.items) c.loop-number.number c.counts.result.known c.args.count _
           c.loop-number.invariant.lengths c.loop-number-test.false c.loop-number.auto.number-end c.min.ensures (ap (λ (k : Counts). k.known) c.counts.ensures));
       numbers = c.loop-number.invariant.numbers;
@@ -73,11 +60,3 @@ pub value-requires : goal.value-requires
 value-requires g c =
     below_known c.args.from c.min.result c.loop-number.number c.args.count c.counts.result.known _ _ c.loop-number-test.true c.min.ensures
     (ap (λ (k : Counts). k.known) c.counts.ensures) c.requires.from (ap (λ (k : Counts). k.known) c.loop-number.invariant.read.counts)
-
-pub returns-in_err-value-clause-read : goal.returns-in_err-value-clause-read
-returns-in_err-value-clause-read g c =
-    read_then g.met.T.Table.stays_then c.loop-number.invariant.read c.in_err-value.ensures.read
-
-pub returns-in_err-push-clause-read : goal.returns-in_err-push-clause-read
-returns-in_err-push-clause-read g c =
-    read_then g.met.T.Table.stays_then c.loop-number.invariant.read c.in_ok-value.ensures.read

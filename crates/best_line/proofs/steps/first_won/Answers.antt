@@ -7,7 +7,7 @@ use Rattle.table.specs.Memory.{bytes_of_each}
 use Rattle.retrograde.specs.View.{HasNumber, HasValue}
 use Rattle.retrograde.specs.declared.records.Counts.{Counts}
 use Rattle.retrograde.specs.Stored.{Stored, IsTable, view_of}
-use Rattle.best_line.proofs.Passing.{passed_on, not_both, some_here}
+use Rattle.best_line.proofs.Exits.{not_both, some_here}
 use Rattle.best_line.proofs.ListLemmas.{item_at, found_first, pass_on, none_here}
 use Rattle.table.proofs.Frames.{unread, read_then}
 use Rattle.best_line.proofs.steps.first_won.Goals as goal
@@ -16,10 +16,13 @@ pub returns-then-is_some-clause-found : goal.returns-then-is_some-clause-found
 returns-then-is_some-clause-found g c = λ honest table.
     let h = c.loop-position.invariant.read.honest.0 honest in
     let y = c.position-item.result.items in
-    let at = item_at (λ (p : ArrayVec ℕ). p.items) c.args.positions.now c.loop-position.position-index c.position-item.result c.loop-position-test.true c.position-item.is in
-    let here = subst (λ (t : Stored (List ℕ)). IfSome c.in_ok-found.found (λ j. HasNumber (view_of t) j y × ((view_of t).value j ≡ Some (c.args.winner, c.args.distance))))
+    let at = item_at (λ (p : ArrayVec ℕ).
+    p.items) c.args.positions.now c.loop-position.position-index c.position-item.result c.loop-position-test.true c.position-item.is in
+    let here = subst (λ (t : Stored (List ℕ)). IfSome c.in_ok-found.found
+    (λ j. HasNumber (view_of t) j y × ((view_of t).value j ≡ Some (c.args.winner, c.args.distance))))
     (c.loop-position.invariant.read.same honest) (c.in_ok-found.ensures.found h) in
-    found_first (view_of (g.T.Table.stored c.args.table.now)) (bytes_of_each c.args.positions.now) c.args.winner c.args.distance c.loop-position.position-index y at
+    found_first (view_of (g.T.Table.stored c.args.table.now))
+    (bytes_of_each c.args.positions.now) c.args.winner c.args.distance c.loop-position.position-index y at
     (c.loop-position.invariant.passed honest table) c.in_ok-found.found here
 
 pub loop-position-preserved : goal.loop-position-preserved
@@ -29,12 +32,16 @@ loop-position-preserved g c = record {
       let h = c.loop-position.invariant.read.honest.0 honest in
       let same = c.loop-position.invariant.read.same honest in
       let y = c.position-item.result.items in
-      let at = item_at (λ (p : ArrayVec ℕ). p.items) c.args.positions.now c.loop-position.position-index c.position-item.result c.loop-position-test.true c.position-item.is in
+      let at = item_at (λ (p : ArrayVec ℕ).
+      p.items) c.args.positions.now c.loop-position.position-index c.position-item.result c.loop-position-test.true c.position-item.is in
       let table' = subst (λ (t : Stored (List ℕ)). IsTable t) (sym same) table in
-      let here = subst (λ (t : Stored (List ℕ)). IfNone c.in_ok-found.found (HasValue (view_of t) y c.args.winner c.args.distance → ⊥)) same (c.in_ok-found.ensures.none h table') in
-      pass_on (view_of (g.T.Table.stored c.args.table.now)) (bytes_of_each c.args.positions.now) c.args.winner c.args.distance c.loop-position.position-index y at
+      let here = subst (λ (t : Stored (List ℕ)). IfNone c.in_ok-found.found (HasValue (view_of t) y c.args.winner c.args.distance → ⊥)) same
+      (c.in_ok-found.ensures.none h table') in
+      pass_on (view_of (g.T.Table.stored c.args.table.now))
+      (bytes_of_each c.args.positions.now) c.args.winner c.args.distance c.loop-position.position-index y at
       (c.loop-position.invariant.passed honest table)
-      (none_here (HasValue (view_of (g.T.Table.stored c.args.table.now)) y c.args.winner c.args.distance → ⊥) c.in_ok-found.found (not_both _ (sym c.if-is_some.ensures)) here);
+      (none_here (HasValue (view_of (g.T.Table.stored c.args.table.now)) y c.args.winner c.args.distance → ⊥) c.in_ok-found.found
+      (not_both _ (sym c.if-is_some.ensures)) here);
 }
 
 pub returns-clause-none : goal.returns-clause-none
@@ -50,22 +57,8 @@ loop-position-init g c =
       passed = λ h table k y less. absurd (omega (arith, less));
     }
 
-pub returns-in_err-found-clause-read : goal.returns-in_err-found-clause-read
-returns-in_err-found-clause-read g c =
-    read_then g.met.T.Table.stays_then c.loop-position.invariant.read c.in_err-found.ensures.read
-
-pub returns-in_err-found-clause-room : goal.returns-in_err-found-clause-room
-returns-in_err-found-clause-room g c =
-    passed_on _ c.from_residual.result _ c.from_residual.ensures c.in_err-found.ensures.room
-
-pub returns-in_err-found-clause-fault : goal.returns-in_err-found-clause-fault
-returns-in_err-found-clause-fault g c =
-    passed_on _ c.from_residual.result _ c.from_residual.ensures
-    (g.met.T.Table.fails_since _ _ _ _ (g.met.T.Table.stays_goes_on _ _ c.loop-position.invariant.read.stays) c.in_err-found.ensures.fault)
-
 pub returns-then-is_some-clause-read : goal.returns-then-is_some-clause-read
-returns-then-is_some-clause-read g c =
-    read_then g.met.T.Table.stays_then c.loop-position.invariant.read c.in_ok-found.ensures.read
+returns-then-is_some-clause-read g c = read_then g.met.T.Table.stays_then c.loop-position.invariant.read c.in_ok-found.ensures.read
 
 pub returns-then-is_some-clause-none : goal.returns-then-is_some-clause-none
 returns-then-is_some-clause-none g c =

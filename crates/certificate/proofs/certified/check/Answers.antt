@@ -6,7 +6,7 @@ use Rattle.position_pack.specs.declared.kind.PackingKind.TheVariants.{Bits}
 use Rattle.certificate.specs.Refusals.{IsRefused}
 use Rattle.certificate.specs.Refusals.{IsRefused as cause}
 use Rattle.certificate.proofs.FaultLemmas.{refused_for_lists, refused_for_text}
-use Rattle.certificate.proofs.Looking.{passed_on}
+use Rattle.certificate.proofs.ListLoops.{passed_on}
 use Rattle.certificate.proofs.PlayLemmas.{so_down}
 use Rattle.certificate.proofs.certified.check.Goals as goal
 
@@ -18,30 +18,60 @@ pub returns-in_err-head-clause-refused : goal.returns-in_err-head-clause-refused
 returns-in_err-head-clause-refused c =
     let few : length c.args.certificate.now < 2 ^ 32 = omega arith in
     passed_on _ c.from_residual.result _ c.from_residual.ensures
-    (subst (IsRefused c.args.certificate.now (option_map (λ (b : Bor (List ℕ)). b.now) c.args.text)) (sym c.in_err-head.ensures.fault) (cause.no_beginning (c.in_err-head.ensures.none few)))
+    (subst (IsRefused c.args.certificate.now (option_map (λ (b : Bor (List ℕ)). b.now) c.args.text)) (sym c.in_err-head.ensures.fault)
+    (cause.no_beginning (c.in_err-head.ensures.none few)))
 
 pub returns-in_err-game-clause-refused : goal.returns-in_err-game-clause-refused
 returns-in_err-game-clause-refused c =
     passed_on _ c.from_residual-in_err-game.result _ c.from_residual-in_err-game.ensures
-    (refused_for_text c.args.certificate.now (option_map (λ (b : Bor (List ℕ)). b.now) c.args.text) (record { goal = points_of c.in_ok-head.head.goal; text = c.in_ok-head.head.text.now; position = c.in_ok-head.head.position.now; value = c.in_ok-head.head.value.now; behind = c.in_ok-head.head.lists.now }) c.in_ok-head.ensures.begins _ c.in_err-game.ensures.fault)
+    (refused_for_text c.args.certificate.now (option_map (λ (b : Bor (List ℕ)). b.now) c.args.text)
+    (record {
+      goal = points_of c.in_ok-head.head.goal;
+      text = c.in_ok-head.head.text.now;
+      position = c.in_ok-head.head.position.now;
+      value = c.in_ok-head.head.value.now;
+      behind = c.in_ok-head.head.lists.now;
+    }) c.in_ok-head.ensures.begins _ c.in_err-game.ensures.fault)
 
 pub returns-then-not-is_given-clause-refused : goal.returns-then-not-is_given-clause-refused
 returns-then-not-is_given-clause-refused c =
     subst (IsRefused c.args.certificate.now (option_map (λ (b : Bor (List ℕ)). b.now) c.args.text)) (sym c.at-then-not-is_given.ensures)
-    (cause.other_game (record { goal = points_of c.in_ok-head.head.goal; text = c.in_ok-head.head.text.now; position = c.in_ok-head.head.position.now; value = c.in_ok-head.head.value.now; behind = c.in_ok-head.head.lists.now }) (game_of c.in_ok-game.game) c.in_ok-head.ensures.begins c.in_ok-game.ensures.reads
+    (cause.other_game (record {
+      goal = points_of c.in_ok-head.head.goal;
+      text = c.in_ok-head.head.text.now;
+      position = c.in_ok-head.head.position.now;
+      value = c.in_ok-head.head.value.now;
+      behind = c.in_ok-head.head.lists.now;
+    })
+    (game_of c.in_ok-game.game) c.in_ok-head.ensures.begins c.in_ok-game.ensures.reads
     (λ given. let yes = c.is_given.ensures.1 given in let no = c.if-not-is_given.true in cc))
 
 pub returns-in_err-claim-clause-refused : goal.returns-in_err-claim-clause-refused
 returns-in_err-claim-clause-refused c =
     passed_on _ c.from_residual-in_err-claim.result _ c.from_residual-in_err-claim.ensures
-    (cause.no_claim (record { goal = points_of c.in_ok-head.head.goal; text = c.in_ok-head.head.text.now; position = c.in_ok-head.head.position.now; value = c.in_ok-head.head.value.now; behind = c.in_ok-head.head.lists.now }) (game_of c.in_ok-game.game) _ c.in_ok-head.ensures.begins c.in_ok-game.ensures.reads c.in_err-claim.ensures.fault)
+    (cause.no_claim (record {
+      goal = points_of c.in_ok-head.head.goal;
+      text = c.in_ok-head.head.text.now;
+      position = c.in_ok-head.head.position.now;
+      value = c.in_ok-head.head.value.now;
+      behind = c.in_ok-head.head.lists.now;
+    })
+    (game_of c.in_ok-game.game) _ c.in_ok-head.ensures.begins c.in_ok-game.ensures.reads c.in_err-claim.ensures.fault)
 
 pub returns-in_err-looked-clause-refused : goal.returns-in_err-looked-clause-refused
 returns-in_err-looked-clause-refused c =
     let claim = c.in_ok-claim.claim in
     let said = c.in_ok-claim.ensures in
     passed_on _ c.from_residual-in_err-looked.result _ c.from_residual-in_err-looked.ensures
-    (refused_for_lists c.args.certificate.now (option_map (λ (b : Bor (List ℕ)). b.now) c.args.text) (record { goal = points_of c.in_ok-head.head.goal; text = c.in_ok-head.head.text.now; position = c.in_ok-head.head.position.now; value = c.in_ok-head.head.value.now; behind = c.in_ok-head.head.lists.now }) c.in_ok-head.ensures.begins (game_of c.in_ok-game.game) claim.at claim.claimed
+    (refused_for_lists c.args.certificate.now (option_map (λ (b : Bor (List ℕ)). b.now) c.args.text)
+    (record {
+      goal = points_of c.in_ok-head.head.goal;
+      text = c.in_ok-head.head.text.now;
+      position = c.in_ok-head.head.position.now;
+      value = c.in_ok-head.head.value.now;
+      behind = c.in_ok-head.head.lists.now;
+    }) c.in_ok-head.ensures.begins
+    (game_of c.in_ok-game.game) claim.at claim.claimed
     (record {
       begins = c.in_ok-head.ensures.begins;
       reads = c.in_ok-game.ensures.reads;

@@ -8,10 +8,10 @@ use Rattle.legal_moves.specs.Compiled.{compiled_game, compiled_goal, packing_kin
 use Rattle.legal_moves.specs.Sources.{graph_of}
 use Rattle.certificate.specs.Claims.{IsSo}
 use Rattle.certificate.specs.Refusals.{AreUnread as unread}
-use Rattle.certificate.specs.aid.Reasons.{AreTheLists, IsNotShown}
-use Rattle.certificate.specs.aid.Reasons.{IsNotShown as cause}
+use Rattle.certificate.specs.lemmas.Reasons.{AreTheLists, IsNotShown}
+use Rattle.certificate.specs.lemmas.Reasons.{IsNotShown as cause}
 use Rattle.certificate.proofs.ClaimLemmas.{same_claim, same_lists, same_refusal}
-use Rattle.certificate.proofs.Looking.{if_err, on_ok, turned}
+use Rattle.certificate.proofs.ListLoops.{if_err, on_ok, turned}
 use Rattle.certificate.proofs.certified.show_claim.Goals as goal
 
 pub returns-in_err-compiled-clause-fault : goal.returns-in_err-compiled-clause-fault

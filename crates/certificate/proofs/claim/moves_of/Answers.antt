@@ -2,7 +2,7 @@ use Rattle.std.proofs.Common.{◌≡◌, ◌≢◌, ◌∙◌, ◌++◌, ap, sym
 use Rattle.std.specs.Fmt.{decimal}
 use Rattle.std.proofs.lemmas.List.{append_cancel_left}
 use Rattle.position_pack.proofs.WordLemmas.{refused}
-use Rattle.certificate.proofs.Looking.{match_option}
+use Rattle.certificate.proofs.ListLoops.{match_option}
 use Rattle.certificate.proofs.claim.moves_of.Goals as goal
 
 pub returns-in_err-digits : goal.returns-in_err-digits

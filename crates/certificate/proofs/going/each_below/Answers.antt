@@ -2,7 +2,7 @@ use Rattle.std.proofs.Common.{◌≡◌, ◌↔◌, true, false, refl, ℕ, List
 use Rattle.arrayvec.specs.ArrayVec.{ArrayVec}
 use Rattle.certificate.specs.Lists.{Stands}
 use Rattle.certificate.specs.Strategies.{RanksBelow}
-use Rattle.certificate.proofs.Looking.{each_more, not_each}
+use Rattle.certificate.proofs.ListLoops.{each_more, not_each}
 use Rattle.certificate.proofs.going.each_below.Goals as goal
 
 pub loop-next-preserved : goal.loop-next-preserved
@@ -16,7 +16,8 @@ returns-then-not-ranks_below c =
     let here = subst (λ (y : List ℕ). (false ≡ true) ↔ RanksBelow (Stands c.args.list.now) c.args.rank y) c.deref.ensures.0 c.if-not-ranks_below.ensures in
     let bad : ¬ RanksBelow (Stands c.args.list.now) c.args.rank c.next-item.result.items = λ good. let yes = here.1 good in cc in (
       λ is. cc,
-      λ each. absurd (not_each (λ (p : ArrayVec ℕ). RanksBelow (Stands c.args.list.now) c.args.rank p.items) c.args.found.now c.loop-next.next-index c.next-item.result
+      λ each. absurd (not_each (λ (p : ArrayVec ℕ). RanksBelow
+          (Stands c.args.list.now) c.args.rank p.items) c.args.found.now c.loop-next.next-index c.next-item.result
           c.loop-next-test.true c.next-item.is bad each),
     )
 

@@ -3,7 +3,7 @@ use Rattle.arrayvec.specs.ArrayVec.{ArrayVec}
 use Rattle.retrograde.specs.Graph.{Moves}
 use Rattle.certificate.specs.Lists.{Stands}
 use Rattle.certificate.specs.Strategies.{RanksFrom}
-use Rattle.certificate.specs.aid.Found.{SomeOf, EachOf}
+use Rattle.certificate.specs.lemmas.Found.{SomeOf, EachOf}
 use Rattle.certificate.proofs.GoingLemmas.{held_by_own, held_by_others}
 use Rattle.certificate.proofs.going.is_held.Goals as goal
 

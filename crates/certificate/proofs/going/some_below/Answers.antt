@@ -2,7 +2,7 @@ use Rattle.std.proofs.Common.{◌≡◌, ◌↔◌, true, false, refl, sym, ℕ,
 use Rattle.arrayvec.specs.ArrayVec.{ArrayVec}
 use Rattle.certificate.specs.Lists.{Stands}
 use Rattle.certificate.specs.Strategies.{RanksBelow}
-use Rattle.certificate.proofs.Looking.{each_more, none_found}
+use Rattle.certificate.proofs.ListLoops.{each_more, none_found}
 use Rattle.certificate.proofs.going.some_below.Goals as goal
 
 pub loop-next-preserved : goal.loop-next-preserved

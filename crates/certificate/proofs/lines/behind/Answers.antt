@@ -1,9 +1,9 @@
 use Rattle.std.proofs.Common.{◌≡◌, ◌≢◌, ◌∙◌, ◌++◌, ◌∷◌, ap, sym, ℕ, List, All}
 use Rattle.std.proofs.lemmas.List.{append_cancel_left}
-use Rattle.position_pack.specs.aid.Spelled.{IsSplitAt}
+use Rattle.position_pack.specs.lemmas.Spelled.{IsSplitAt}
 use Rattle.position_pack.proofs.WordLemmas.{not_cut}
 use Rattle.certificate.specs.Format.{IsOneLine}
-use Rattle.certificate.proofs.Looking.{match_option}
+use Rattle.certificate.proofs.ListLoops.{match_option}
 use Rattle.certificate.proofs.lines.behind.Goals as goal
 
 pub returns : goal.returns

@@ -1,7 +1,7 @@
 use Rattle.std.proofs.Common.{sym, subst, ap, ◌∙◌, List, ℕ}
 use Rattle.position_pack.proofs.WordLemmas.{refused}
 use Rattle.certificate.specs.Format.{lines}
-use Rattle.certificate.specs.aid.Parts.{EndsList}
+use Rattle.certificate.specs.lemmas.Parts.{EndsList}
 use Rattle.certificate.proofs.LineLemmas.{no_lines}
 use Rattle.certificate.proofs.lines.filled_line.Goals as goal
 

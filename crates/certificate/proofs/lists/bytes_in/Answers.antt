@@ -1,6 +1,6 @@
 use Rattle.std.proofs.Common.{refl}
 use Rattle.certificate.specs.Format.{letters}
-use Rattle.certificate.specs.aid.Parts.{IsLettersRefused as cause}
+use Rattle.certificate.specs.lemmas.Parts.{IsLettersRefused as cause}
 use Rattle.certificate.proofs.lists.bytes_in.Goals as goal
 
 pub returns-in-Ok-clause-read : goal.returns-in-Ok-clause-read

@@ -1,7 +1,7 @@
 use Rattle.std.proofs.Common.{refl, subst, List, ℕ}
 use Rattle.rbg_game.specs.declared.position.Position.{Position}
 use Rattle.position_pack.specs.Packings.{IsPacked}
-use Rattle.certificate.proofs.Looking.{passed_on}
+use Rattle.certificate.proofs.ListLoops.{passed_on}
 use Rattle.certificate.proofs.ReadLemmas.{line_is_read, no_letters_there, no_parts, no_position_there}
 use Rattle.certificate.proofs.lists.line_read.Goals as goal
 

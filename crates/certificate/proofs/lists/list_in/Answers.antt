@@ -1,8 +1,8 @@
 use Rattle.std.proofs.Common.{sym, subst}
 use Rattle.certificate.specs.Format.{lines}
-use Rattle.certificate.specs.aid.Parts.{IsListRefused}
-use Rattle.certificate.specs.aid.Parts.{IsListRefused as cause}
-use Rattle.certificate.proofs.Looking.{passed_on}
+use Rattle.certificate.specs.lemmas.Parts.{IsListRefused}
+use Rattle.certificate.specs.lemmas.Parts.{IsListRefused as cause}
+use Rattle.certificate.proofs.ListLoops.{passed_on}
 use Rattle.certificate.proofs.lists.list_in.Goals as goal
 
 pub returns-in_err-positions-clause-fault : goal.returns-in_err-positions-clause-fault

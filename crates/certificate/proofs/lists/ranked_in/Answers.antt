@@ -4,10 +4,10 @@ use Rattle.rbg_game.specs.declared.position.Position.{Position}
 use Rattle.position_pack.specs.Packings.{IsPacked}
 use Rattle.certificate.specs.Format.{Ascends, lines}
 use Rattle.certificate.specs.Lists.{line_of, lines_in}
-use Rattle.certificate.specs.aid.Parts.{AreLinesRefused, AreOfPositions, AreReadLines}
-use Rattle.certificate.specs.aid.Parts.{AreLinesRefused as cause}
+use Rattle.certificate.specs.lemmas.Parts.{AreLinesRefused, AreOfPositions, AreReadLines}
+use Rattle.certificate.specs.lemmas.Parts.{AreLinesRefused as cause}
 use Rattle.certificate.specs.declared.ranked.Ranked.{Ranked}
-use Rattle.certificate.proofs.Looking.{turned}
+use Rattle.certificate.proofs.ListLoops.{turned}
 use Rattle.certificate.proofs.ReadLemmas.{no_line_there, not_ascending, one_read}
 use Rattle.certificate.proofs.lists.ranked_in.Goals as goal
 
@@ -26,7 +26,8 @@ returns-then-not-ascends-clause-fault c =
     let found = c.in-Some.ensures in
     let list = c.loop-line.list.items in
     let read = subst (λ (ts : List (List ℕ)). AreReadLines c.args.manner texts list ts) found.2 c.loop-line.invariant.0 in
-    let tells = subst (λ (all : List Ranked). (c.ascends.result ≡ true) ↔ Ascends (lines_in all ++ line_of c.in-Ok.ranked ∷ [])) c.deref.ensures.value c.ascends.ensures in
+    let tells = subst (λ (all : List Ranked). (c.ascends.result ≡ true) ↔ Ascends
+    (lines_in all ++ line_of c.in-Ok.ranked ∷ [])) c.deref.ensures.value c.ascends.ensures in
     subst (AreLinesRefused c.args.packing.now c.args.manner texts) (sym c.at-then-not-ascends.ensures)
     (not_ascending c.args.manner texts list c.in-Some.line.now (lines c.in-Some.behind.now) read c.args.packing.now found.0 c.in-Ok.ranked c.in-Ok.ensures.read
     (λ ascends. let yes = tells.1 ascends in let no = c.if-not-ascends.true in cc))
@@ -42,9 +43,11 @@ loop-line-preserved c =
     let found = c.in-Some.ensures in
     let list = c.loop-line.list.items in
     let read = subst (λ (ts : List (List ℕ)). AreReadLines c.args.manner texts list ts) found.2 c.loop-line.invariant.0 in
-    let tells = subst (λ (all : List Ranked). (c.ascends.result ≡ true) ↔ Ascends (lines_in all ++ line_of c.in-Ok.ranked ∷ [])) c.deref.ensures.value c.ascends.ensures in (
+    let tells = subst (λ (all : List Ranked). (c.ascends.result ≡ true) ↔ Ascends
+    (lines_in all ++ line_of c.in-Ok.ranked ∷ [])) c.deref.ensures.value c.ascends.ensures in (
       one_read c.args.manner texts list c.in-Some.line.now (lines c.in-Some.behind.now) read c.in-Ok.ranked c.put.new.list.items c.in_ok-put.ensures
           c.in-Ok.ensures.read (tells.0 c.if-not-ascends.false),
       subst (AreOfPositions c.args.packing.now) (sym c.in_ok-put.ensures)
-          (All-push (λ (r : Ranked). (at : Position) × IsPacked c.args.packing.now at r.at.items) list c.in-Ok.ranked c.loop-line.invariant.1 c.in-Ok.ensures.position),
+          (All-push (λ (r : Ranked). (at : Position)
+          × IsPacked c.args.packing.now at r.at.items) list c.in-Ok.ranked c.loop-line.invariant.1 c.in-Ok.ensures.position),
     )

@@ -1,6 +1,6 @@
 use Rattle.std.proofs.Common.{length}
 use Rattle.certificate.specs.Format.{lines}
-use Rattle.certificate.specs.aid.Parts.{AreOfPositions, AreReadLines}
+use Rattle.certificate.specs.lemmas.Parts.{AreOfPositions, AreReadLines}
 use Rattle.certificate.proofs.lists.ranked_in.Given as goal
 
 abbrev pub invariant-loop-line : goal.invariant-loop-line

@@ -14,5 +14,6 @@ returns-in_err-rank c =
     refused _ _ c.from_residual-in_err-rank.result c.from_residual-in_err-rank.ensures
     (λ front rank few is.
     c.in_err-rank.ensures rank few
-    (cut_last 32 c.in_ok-letters.letters.now front c.in_ok-letters.digits.now (decimal rank) (each_lacks 32 c.in_ok-letters.digits.now c.in_ok-letters.ensures.back_lacks)
+    (cut_last 32 c.in_ok-letters.letters.now front c.in_ok-letters.digits.now (decimal rank)
+    (each_lacks 32 c.in_ok-letters.digits.now c.in_ok-letters.ensures.back_lacks)
     (no_blank_in_digits rank few) (sym c.in_ok-letters.ensures.text_is ∙ is)).1)

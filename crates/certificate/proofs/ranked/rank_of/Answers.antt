@@ -16,7 +16,8 @@ pub returns-else-eq : goal.returns-else-eq
 returns-else-eq c =
     rank_missing c.args.list.now c.requires c.args.at.now c.partition_point-place.result
     (IsPartitionPoint-from_clause (comes_before c.args.list.now c.requires c.args.at.now) c.args.list.now c.partition_point-place.result
-    c.partition_point-place.ensures.partitioned (partitioned c.args.list.now c.requires c.args.at.now) (λ a r f h. let whole = take_all (length c.args.at.now) c.args.at.now (omega arith) in search (rules, whole)))
+    c.partition_point-place.ensures.partitioned (partitioned c.args.list.now c.requires c.args.at.now)
+    (λ a r f h. let whole = take_all (length c.args.at.now) c.args.at.now (omega arith) in search (rules, whole)))
     (λ r lt is here.
     let one = c.index-list-place.is ∙ get_or_default c.args.list.now c.partition_point-place.result c.index-list-place.result r lt ∙ sym is in
     other_text c.as_slice.result.now c.args.at.now (sym c.if-eq.false ∙ c.eq.ensures)
@@ -26,5 +27,6 @@ pub returns-then-place-list : goal.returns-then-place-list
 returns-then-place-list c =
     rank_missing c.args.list.now c.requires c.args.at.now c.partition_point-place.result
     (IsPartitionPoint-from_clause (comes_before c.args.list.now c.requires c.args.at.now) c.args.list.now c.partition_point-place.result
-    c.partition_point-place.ensures.partitioned (partitioned c.args.list.now c.requires c.args.at.now) (λ a r f h. let whole = take_all (length c.args.at.now) c.args.at.now (omega arith) in search (rules, whole)))
+    c.partition_point-place.ensures.partitioned (partitioned c.args.list.now c.requires c.args.at.now)
+    (λ a r f h. let whole = take_all (length c.args.at.now) c.args.at.now (omega arith) in search (rules, whole)))
     (λ r lt is here. absurd (omega arith))

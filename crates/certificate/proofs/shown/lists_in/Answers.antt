@@ -12,7 +12,7 @@ use Rattle.legal_moves.specs.Compiled.{compiled_game}
 use Rattle.certificate.specs.Format.{first_manner, first_player, lines, second_manner, second_player}
 use Rattle.certificate.specs.Refusals.{AreUnread}
 use Rattle.certificate.proofs.LineLemmas.{lines_there, none_there}
-use Rattle.certificate.proofs.Looking.{passed_on}
+use Rattle.certificate.proofs.ListLoops.{passed_on}
 use Rattle.certificate.proofs.UnreadLemmas.{both_read, end_refused, first_refused, read_as, refused_as, second_refused}
 use Rattle.certificate.proofs.shown.lists_in.Goals as goal
 
@@ -43,15 +43,18 @@ returns-in_err-second-clause-fault c =
     let first_is : c.name_of-name.result.now ≡ role_text game (role.Player (first_player c.args.claimed)) =
     c.name_of-name.ensures ∙ ap (λ (g : Game). role_text g (role.Player c.first_player.result)) c.game.ensures
     ∙ ap (λ (p : Player). role_text game (role.Player p)) c.first_player.ensures in
-    let read = read_as c.first_manner.result (first_manner c.args.claimed) c.name_of-name.result.now (role_text game (role.Player (first_player c.args.claimed)))
+    let read = read_as c.first_manner.result (first_manner c.args.claimed) c.name_of-name.result.now
+    (role_text game (role.Player (first_player c.args.claimed)))
     (lines c.args.behind.now) c.in_ok-first.first.list.items (lines c.in_ok-first.rest.now) c.first_manner.ensures first_is c.in_ok-first.ensures.read in
     let second_is : c.name_of-name-2.result.now ≡ role_text game (role.Player (second_player c.args.claimed)) =
     c.name_of-name-2.ensures ∙ ap (λ (g : Game). role_text g (role.Player c.second_player.result)) c.game-2.ensures
     ∙ ap (λ (p : Player). role_text game (role.Player p)) c.second_player.ensures in
     passed_on _ c.from_residual-in_err-second.result _ c.from_residual-in_err-second.ensures
-    (second_refused game c.args.claimed c.args.behind.now c.packing-packing.result.now form_is c.in_ok-first.first.list.items (lines c.in_ok-first.rest.now) read _
+    (second_refused game c.args.claimed c.args.behind.now c.packing-packing.result.now form_is c.in_ok-first.first.list.items
+    (lines c.in_ok-first.rest.now) read _
     (refused_as c.packing-packing.result.now c.second_manner.result (second_manner c.args.claimed) c.name_of-name-2.result.now
-    (role_text game (role.Player (second_player c.args.claimed))) (lines c.in_ok-first.rest.now) _ c.second_manner.ensures second_is c.in_err-second.ensures.fault))
+    (role_text game (role.Player (second_player c.args.claimed)))
+    (lines c.in_ok-first.rest.now) _ c.second_manner.ensures second_is c.in_err-second.ensures.fault))
 
 pub returns-then-not-is_empty-clause-fault : goal.returns-then-not-is_empty-clause-fault
 returns-then-not-is_empty-clause-fault c =
@@ -60,13 +63,16 @@ returns-then-not-is_empty-clause-fault c =
     let first_is : c.name_of-name.result.now ≡ role_text game (role.Player (first_player c.args.claimed)) =
     c.name_of-name.ensures ∙ ap (λ (g : Game). role_text g (role.Player c.first_player.result)) c.game.ensures
     ∙ ap (λ (p : Player). role_text game (role.Player p)) c.first_player.ensures in
-    let read = read_as c.first_manner.result (first_manner c.args.claimed) c.name_of-name.result.now (role_text game (role.Player (first_player c.args.claimed)))
+    let read = read_as c.first_manner.result (first_manner c.args.claimed) c.name_of-name.result.now
+    (role_text game (role.Player (first_player c.args.claimed)))
     (lines c.args.behind.now) c.in_ok-first.first.list.items (lines c.in_ok-first.rest.now) c.first_manner.ensures first_is c.in_ok-first.ensures.read in
     let second_is : c.name_of-name-2.result.now ≡ role_text game (role.Player (second_player c.args.claimed)) =
     c.name_of-name-2.ensures ∙ ap (λ (g : Game). role_text g (role.Player c.second_player.result)) c.game-2.ensures
     ∙ ap (λ (p : Player). role_text game (role.Player p)) c.second_player.ensures in
-    let others = read_as c.second_manner.result (second_manner c.args.claimed) c.name_of-name-2.result.now (role_text game (role.Player (second_player c.args.claimed)))
-    (lines c.in_ok-first.rest.now) c.in_ok-second.second.list.items (lines c.in_ok-second.rest.now) c.second_manner.ensures second_is c.in_ok-second.ensures.read in
+    let others = read_as c.second_manner.result (second_manner c.args.claimed) c.name_of-name-2.result.now
+    (role_text game (role.Player (second_player c.args.claimed)))
+    (lines c.in_ok-first.rest.now) c.in_ok-second.second.list.items
+    (lines c.in_ok-second.rest.now) c.second_manner.ensures second_is c.in_ok-second.ensures.read in
     let some : 0 < length c.in_ok-second.rest.now = search rules in
     subst (AreUnread game c.args.claimed c.args.behind.now) (sym c.at.ensures)
     (end_refused game c.args.claimed c.args.behind.now c.packing-packing.result.now form_is c.in_ok-first.first.list.items (lines c.in_ok-first.rest.now) read
@@ -79,13 +85,16 @@ returns-clause-read c =
     let first_is : c.name_of-name.result.now ≡ role_text game (role.Player (first_player c.args.claimed)) =
     c.name_of-name.ensures ∙ ap (λ (g : Game). role_text g (role.Player c.first_player.result)) c.game.ensures
     ∙ ap (λ (p : Player). role_text game (role.Player p)) c.first_player.ensures in
-    let read = read_as c.first_manner.result (first_manner c.args.claimed) c.name_of-name.result.now (role_text game (role.Player (first_player c.args.claimed)))
+    let read = read_as c.first_manner.result (first_manner c.args.claimed) c.name_of-name.result.now
+    (role_text game (role.Player (first_player c.args.claimed)))
     (lines c.args.behind.now) c.in_ok-first.first.list.items (lines c.in_ok-first.rest.now) c.first_manner.ensures first_is c.in_ok-first.ensures.read in
     let second_is : c.name_of-name-2.result.now ≡ role_text game (role.Player (second_player c.args.claimed)) =
     c.name_of-name-2.ensures ∙ ap (λ (g : Game). role_text g (role.Player c.second_player.result)) c.game-2.ensures
     ∙ ap (λ (p : Player). role_text game (role.Player p)) c.second_player.ensures in
-    let others = read_as c.second_manner.result (second_manner c.args.claimed) c.name_of-name-2.result.now (role_text game (role.Player (second_player c.args.claimed)))
-    (lines c.in_ok-first.rest.now) c.in_ok-second.second.list.items (lines c.in_ok-second.rest.now) c.second_manner.ensures second_is c.in_ok-second.ensures.read in
+    let others = read_as c.second_manner.result (second_manner c.args.claimed) c.name_of-name-2.result.now
+    (role_text game (role.Player (second_player c.args.claimed)))
+    (lines c.in_ok-first.rest.now) c.in_ok-second.second.list.items
+    (lines c.in_ok-second.rest.now) c.second_manner.ensures second_is c.in_ok-second.ensures.read in
     let none : length c.in_ok-second.rest.now ≡ 0 = search rules in
     both_read game c.args.claimed c.args.behind.now c.packing-packing.result.now form_is c.in_ok-first.first.list.items (lines c.in_ok-first.rest.now) read
     c.in_ok-second.second.list.items (lines c.in_ok-second.rest.now) others (none_there c.in_ok-second.rest.now none)

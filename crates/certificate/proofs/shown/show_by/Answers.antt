@@ -11,12 +11,14 @@ pub returns-in-Won-clause-narrow : goal.returns-in-Won-clause-narrow
 returns-in-Won-clause-narrow c =
     let source = c.args.compiled.now in
     let lists = c.args.lists.now in
-    subst (λ (k : Claimed). OnOk c.show_win.result (AreNarrow (IsWideAt (packing_kind source) (compiled_game source)) k (lines_in lists.first.list.items) (lines_in lists.second.list.items)))
+    subst (λ (k : Claimed). OnOk c.show_win.result
+    (AreNarrow (IsWideAt (packing_kind source) (compiled_game source)) k (lines_in lists.first.list.items) (lines_in lists.second.list.items)))
     (sym c.in-Won.is) c.show_win.ensures.narrow
 
 pub returns-in-Drawn-clause-narrow : goal.returns-in-Drawn-clause-narrow
 returns-in-Drawn-clause-narrow c =
     let source = c.args.compiled.now in
     let lists = c.args.lists.now in
-    subst (λ (k : Claimed). OnOk c.show_draw.result (AreNarrow (IsWideAt (packing_kind source) (compiled_game source)) k (lines_in lists.first.list.items) (lines_in lists.second.list.items)))
+    subst (λ (k : Claimed). OnOk c.show_draw.result
+    (AreNarrow (IsWideAt (packing_kind source) (compiled_game source)) k (lines_in lists.first.list.items) (lines_in lists.second.list.items)))
     (sym c.in-Drawn.is) c.show_draw.ensures.narrow

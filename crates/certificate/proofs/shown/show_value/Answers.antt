@@ -5,8 +5,8 @@ use Rattle.legal_moves.specs.Sources.{IsWideAt, graph_of}
 use Rattle.certificate.specs.Lists.{lines_in}
 use Rattle.certificate.specs.Right.{AreShown}
 use Rattle.certificate.specs.Shown.{AreNarrow, IsUnshown}
-use Rattle.certificate.specs.aid.Reasons.{IsNotShown as cause}
-use Rattle.certificate.proofs.Looking.{passed_on}
+use Rattle.certificate.specs.lemmas.Reasons.{IsNotShown as cause}
+use Rattle.certificate.proofs.ListLoops.{passed_on}
 use Rattle.certificate.proofs.shown.show_value.Goals as goal
 
 pub returns-in_err-lists-clause-fault : goal.returns-in_err-lists-clause-fault
@@ -20,7 +20,8 @@ returns-in_err-show_by-clause-fault c =
     let second = lines_in c.in_ok-lists.lists.second.list.items in
     passed_on _ c.from_residual-in_err-show_by.result _ c.from_residual-in_err-show_by.ensures
     (cause.unshown first second _ c.in_ok-lists.ensures.read.has
-    (subst (λ (kind : PackingKind). IsUnshown (graph_of kind (compiled_goal c.args.compiled.now) game) (IsWideAt kind game) c.args.claimed c.args.at.now.items first second
+    (subst (λ (kind : PackingKind). IsUnshown (graph_of kind (compiled_goal c.args.compiled.now) game)
+    (IsWideAt kind game) c.args.claimed c.args.at.now.items first second
     c.in_err-show_by.field-0.0.fault) c.requires.kind c.in_err-show_by.ensures.fault))
 
 pub returns-clause-shown : goal.returns-clause-shown

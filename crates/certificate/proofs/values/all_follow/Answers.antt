@@ -12,12 +12,15 @@ use Rattle.certificate.proofs.values.all_follow.Goals as goal
 pub returns-in-Ok-Some-clause-fault : goal.returns-in-Ok-Some-clause-fault
 returns-in-Ok-Some-clause-fault g c =
     let graph = g.M.GameGraph.graph c.args.source.now in
-    let said = subst (λ (o : Option ℕ). MatchOption o (All (Follows graph c.args.manner c.args.player (lines_in c.deref.result.now)) (lines_in c.deref.result.now))
+    let said = subst (λ (o : Option ℕ). MatchOption o
+    (All (Follows graph c.args.manner c.args.player (lines_in c.deref.result.now)) (lines_in c.deref.result.now))
     (λ _. (line : Line) × Contains (lines_in c.deref.result.now) line × ¬ Follows graph c.args.manner c.args.player (lines_in c.deref.result.now) line))
     c.in-Ok-Some.field-0-is c.in-Ok-Some.ensures.is in
-    let (line, there, bad) = subst (λ (all : List Ranked). (line : Line) × Contains (lines_in all) line × ¬ Follows graph c.args.manner c.args.player (lines_in all) line)
+    let (line, there, bad) = subst (λ (all : List Ranked). (line : Line) × Contains (lines_in all) line
+    × ¬ Follows graph c.args.manner c.args.player (lines_in all) line)
     c.deref.ensures.value said in
-    subst (IsUnfollowed graph (g.M.GameGraph.is_wide c.args.source.now) c.args.manner c.args.player (lines_in c.args.listed.now.list.items)) (sym c.not_followed.ensures)
+    subst (IsUnfollowed graph (g.M.GameGraph.is_wide c.args.source.now) c.args.manner c.args.player (lines_in c.args.listed.now.list.items))
+    (sym c.not_followed.ensures)
     (cause.not_followed line there bad)
 
 pub returns-in-Err-clause-fault : goal.returns-in-Err-clause-fault

@@ -7,7 +7,7 @@ use Rattle.certificate.specs.Shown.{IsUnshown as cause}
 use Rattle.certificate.specs.declared.claim.Claimed.TheVariants as claimed
 use Rattle.certificate.specs.declared.fault.CertificateFault.TheVariants.{NotShown}
 use Rattle.certificate.specs.declared.manner.Manner.TheVariants.{AtMost, AtLeast}
-use Rattle.certificate.proofs.Looking.{if_both_err, on_ok, passed_on}
+use Rattle.certificate.proofs.ListLoops.{if_both_err, on_ok, passed_on}
 use Rattle.certificate.proofs.ShownLemmas.{delay_of, strategy_of}
 use Rattle.certificate.proofs.StrategyLemmas.{won_by_both}
 use Rattle.certificate.proofs.values.show_win.Goals as goal
@@ -25,8 +25,10 @@ returns-in_err-all_follow-2-clause-fault g c =
 pub returns-in_err-has_shown-clause-fault : goal.returns-in_err-has_shown-clause-fault
 returns-in_err-has_shown-clause-fault g c =
     passed_on _ c.from_residual-in_err-has_shown.result _ c.from_residual-in_err-has_shown.ensures
-    (subst (IsUnshown (g.M.GameGraph.graph c.args.source.now) (g.M.GameGraph.is_wide c.args.source.now) (claimed.Won c.args.player c.args.moves) c.args.at.now.items (lines_in c.args.most.now.list.items) (lines_in c.args.least.now.list.items))
-    (sym c.in_err-has_shown.ensures.fault) (cause.not_there AtMost c.args.player (lines_in c.args.most.now.list.items) IsList.the_first c.in_err-has_shown.ensures.not_there))
+    (subst (IsUnshown (g.M.GameGraph.graph c.args.source.now) (g.M.GameGraph.is_wide c.args.source.now)
+    (claimed.Won c.args.player c.args.moves) c.args.at.now.items (lines_in c.args.most.now.list.items) (lines_in c.args.least.now.list.items))
+    (sym c.in_err-has_shown.ensures.fault)
+    (cause.not_there AtMost c.args.player (lines_in c.args.most.now.list.items) IsList.the_first c.in_err-has_shown.ensures.not_there))
 
 pub returns-clause-so : goal.returns-clause-so
 returns-clause-so g c =
@@ -42,8 +44,11 @@ pub returns-clause-fault : goal.returns-clause-fault
 returns-clause-fault g c =
     let least = lines_in c.args.least.now.list.items in
     if_both_err c.has_shown-2.result (λ refusal. refusal.fault ≡ NotShown) (λ _. ¬ Shows AtLeast least c.args.at.now.items c.args.moves)
-    (λ refusal. (IsUnshown (g.M.GameGraph.graph c.args.source.now) (g.M.GameGraph.is_wide c.args.source.now) (claimed.Won c.args.player c.args.moves) c.args.at.now.items (lines_in c.args.most.now.list.items) (lines_in c.args.least.now.list.items)) refusal.fault)
-    (λ refusal is bad. subst (IsUnshown (g.M.GameGraph.graph c.args.source.now) (g.M.GameGraph.is_wide c.args.source.now) (claimed.Won c.args.player c.args.moves) c.args.at.now.items (lines_in c.args.most.now.list.items) (lines_in c.args.least.now.list.items)) (sym is)
+    (λ refusal. (IsUnshown (g.M.GameGraph.graph c.args.source.now) (g.M.GameGraph.is_wide c.args.source.now)
+    (claimed.Won c.args.player c.args.moves) c.args.at.now.items (lines_in c.args.most.now.list.items)
+    (lines_in c.args.least.now.list.items)) refusal.fault)
+    (λ refusal is bad. subst (IsUnshown (g.M.GameGraph.graph c.args.source.now) (g.M.GameGraph.is_wide c.args.source.now)
+    (claimed.Won c.args.player c.args.moves) c.args.at.now.items (lines_in c.args.most.now.list.items) (lines_in c.args.least.now.list.items)) (sym is)
     (cause.not_there AtLeast c.args.player least IsList.the_second bad))
     c.has_shown-2.ensures.fault c.has_shown-2.ensures.not_there
 

@@ -4,7 +4,7 @@ use Rattle.legal_moves.specs.declared.fault.MoveFault.{MoveFault}
 use Rattle.certificate.specs.Format.{Line}
 use Rattle.certificate.specs.Lists.{line_of, lines_in}
 use Rattle.certificate.specs.Shown.{Follows, IsSearched}
-use Rattle.certificate.proofs.Looking.{not_this}
+use Rattle.certificate.proofs.ListLoops.{not_this}
 use Rattle.certificate.proofs.RankLemmas.{stands_there}
 use Rattle.certificate.proofs.whole.first_not_following.Goals as goal
 

@@ -12,7 +12,8 @@ returns-in-AtMost-clause-is g c =
     let list = lines_in c.args.list.now in
     let line = line_of c.args.ranked.now in
     subst (λ (m : Manner). IfOk c.goes_down.result (λ (b : Bool). (b ≡ true) ↔ Follows graph m c.args.player list line)) (sym c.in-AtMost.is)
-    (subst (λ (x : List ℕ). IfOk c.goes_down.result (λ (b : Bool). (b ≡ true) ↔ Follows graph AtMost c.args.player list (record { at = x; rank = c.args.ranked.now.rank })))
+    (subst (λ (x : List ℕ). IfOk c.goes_down.result
+    (λ (b : Bool). (b ≡ true) ↔ Follows graph AtMost c.args.player list (record { at = x; rank = c.args.ranked.now.rank })))
     (c.packed_of-at.ensures ∙ c.deref.ensures.value) c.goes_down.ensures.is)
 
 pub returns-in-AtLeast-clause-is : goal.returns-in-AtLeast-clause-is
@@ -21,7 +22,8 @@ returns-in-AtLeast-clause-is g c =
     let list = lines_in c.args.list.now in
     let line = line_of c.args.ranked.now in
     subst (λ (m : Manner). IfOk c.is_held_for.result (λ (b : Bool). (b ≡ true) ↔ Follows graph m c.args.player list line)) (sym c.in-AtLeast.is)
-    (subst (λ (x : List ℕ). IfOk c.is_held_for.result (λ (b : Bool). (b ≡ true) ↔ Follows graph AtLeast c.args.player list (record { at = x; rank = c.args.ranked.now.rank })))
+    (subst (λ (x : List ℕ). IfOk c.is_held_for.result
+    (λ (b : Bool). (b ≡ true) ↔ Follows graph AtLeast c.args.player list (record { at = x; rank = c.args.ranked.now.rank })))
     (c.packed_of-at.ensures ∙ c.deref.ensures.value) c.is_held_for.ensures.is)
 
 pub returns-in-Never-clause-is : goal.returns-in-Never-clause-is
@@ -30,5 +32,6 @@ returns-in-Never-clause-is g c =
     let list = lines_in c.args.list.now in
     let line = line_of c.args.ranked.now in
     subst (λ (m : Manner). IfOk c.is_held.result (λ (b : Bool). (b ≡ true) ↔ Follows graph m c.args.player list line)) (sym c.in-Never.is)
-    (subst (λ (x : List ℕ). IfOk c.is_held.result (λ (b : Bool). (b ≡ true) ↔ Follows graph Never c.args.player list (record { at = x; rank = c.args.ranked.now.rank })))
+    (subst (λ (x : List ℕ). IfOk c.is_held.result
+    (λ (b : Bool). (b ≡ true) ↔ Follows graph Never c.args.player list (record { at = x; rank = c.args.ranked.now.rank })))
     (c.packed_of-at.ensures ∙ c.deref.ensures.value) c.is_held.ensures.is)

@@ -1,7 +1,7 @@
 use Rattle.std.proofs.Common.{◌≡◌, ◌↔◌, true, suc, ℕ, ◌-◌, Bool, subst, arith}
 use Rattle.certificate.specs.Lists.{Stands}
 use Rattle.certificate.specs.Strategies.{IsHeld, IsHeldFor, RanksFrom}
-use Rattle.certificate.proofs.Looking.{if_ok}
+use Rattle.certificate.proofs.ListLoops.{if_ok}
 use Rattle.certificate.proofs.whole.is_held_for.Goals as goal
 
 pub returns-clause-is : goal.returns-clause-is

@@ -1,4 +1,4 @@
-use Rattle.certificate_writer.specs.Keeping.{KeepsGoal}
+use Rattle.certificate_writer.specs.Frames.{KeepsGoal}
 use Rattle.certificate_writer.proofs.strategy.strategy.Given as goal
 
 abbrev pub invariant-loop-turn : goal.invariant-loop-turn

@@ -1,7 +1,7 @@
 use Rattle.std.proofs.Common.{◌≡◌, ◌∙◌, ap, None}
 use Rattle.rbg_game.specs.Goals.{points_of}
 use Rattle.certificate.specs.Right.{IsAcceptable}
-use Rattle.certificate.proofs.Looking.{if_ok}
+use Rattle.certificate.proofs.ListLoops.{if_ok}
 use Rattle.game_file.specs.Kept.{goal_kept}
 use Rattle.solver.specs.Queries.{Tells}
 use Rattle.solver.specs.Solvers.{state}

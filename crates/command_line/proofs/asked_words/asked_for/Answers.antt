@@ -1,5 +1,5 @@
 use Rattle.std.proofs.Common.{refl, take, drop, inl, inr}
-use Rattle.command_line.specs.Building.{word_in}
+use Rattle.command_line.specs.Commands.{word_in}
 use Rattle.command_line.specs.Words.{commands, actions, audit, certify, check, create, game, grow, load, look, migrate, moves, session}
 use Rattle.command_line.proofs.CommandLine.{by_its_name}
 use Rattle.command_line.proofs.asked_words.asked_for.Goals as goal

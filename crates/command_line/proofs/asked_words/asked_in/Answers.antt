@@ -1,6 +1,6 @@
 use Rattle.std.proofs.Common.{subst, sym}
 use Rattle.std.specs.Prelude.{IfOk}
-use Rattle.command_line.specs.Building.{AsksIfAny}
+use Rattle.command_line.specs.Commands.{AsksIfAny}
 use Rattle.command_line.specs.Words.{AsksBy}
 use Rattle.command_line.proofs.CommandLine.{rows_met}
 use Rattle.command_line.proofs.asked_words.asked_in.Goals as goal

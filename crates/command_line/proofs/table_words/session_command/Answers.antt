@@ -1,7 +1,7 @@
 use Rattle.std.proofs.Common.{codes, rules}
 use Rattle.std.proofs.lemmas.Result.{IfOk-weaker}
 use Rattle.clap.specs.Simple.{new_shape}
-use Rattle.command_line.specs.Building.{HasApp, leaf}
+use Rattle.command_line.specs.Commands.{HasApp, leaf}
 use Rattle.command_line.proofs.CommandLine.{more_word}
 use Rattle.command_line.proofs.table_words.session_command.Goals as goal
 

@@ -5,12 +5,12 @@ use Rattle.std.specs.Str.{bytes_eq}
 use Rattle.rbg_game.specs.Goals.{points_in}
 use Rattle.command_line.specs.Words.{IsSwitchedOn}
 use Rattle.command_line.proofs.GoalLine.{load_goal_named, load_goal_right}
-use Rattle.command_line.proofs.Spelling.{means, plain_number, plain_pages, read, actions_named, actions_right, audit_game_named, audit_game_right}
-use Rattle.command_line.proofs.Spelling.{audit_named, audit_right, certify_named, certify_number_named, certify_number_right, certify_right}
-use Rattle.command_line.proofs.Spelling.{check_game_named, check_game_right, check_named, check_right, create_named, create_right, game_named, game_right}
-use Rattle.command_line.proofs.Spelling.{create_reserved_named, grow_named, grow_reserved_named, grow_right, load_named, load_right, look_named, look_quiet_named, look_quiet_right, look_right}
-use Rattle.command_line.proofs.Spelling.{migrate_named, migrate_right, moves_at_named, moves_at_right, moves_named, moves_of_input_named}
-use Rattle.command_line.proofs.Spelling.{moves_of_input_right, moves_right, session_named, session_quiet_named, session_quiet_right, session_right}
+use Rattle.command_line.proofs.WrittenLines.{means, plain_number, plain_pages, read, actions_named, actions_right, audit_game_named, audit_game_right}
+use Rattle.command_line.proofs.WrittenLines.{audit_named, audit_right, certify_named, certify_number_named, certify_number_right, certify_right}
+use Rattle.command_line.proofs.WrittenLines.{check_game_named, check_game_right, check_named, check_right, create_named, create_right, game_named, game_right}
+use Rattle.command_line.proofs.WrittenLines.{create_reserved_named, grow_named, grow_reserved_named, grow_right, load_named, load_right, look_named, look_quiet_named, look_quiet_right, look_right}
+use Rattle.command_line.proofs.WrittenLines.{migrate_named, migrate_right, moves_at_named, moves_at_right, moves_named, moves_of_input_named}
+use Rattle.command_line.proofs.WrittenLines.{moves_of_input_right, moves_right, session_named, session_quiet_named, session_quiet_right, session_right}
 use Rattle.command_line.proofs.ReservedLine.{create_reserved_right, grow_reserved_right}
 use Rattle.command_line.proofs.word_laws.commands_ask.Goals as goal
 

@@ -2,7 +2,7 @@ use Rattle.std.proofs.Common.{ℕ, take}
 use Rattle.clap.specs.Words.{App, with_subcommand}
 use Rattle.std.specs.List.{fold}
 use Rattle.std.specs.Prelude.{map}
-use Rattle.command_line.specs.Building.{leaf}
+use Rattle.command_line.specs.Commands.{leaf}
 use Rattle.command_line.specs.Words.{alone_program, commands, shape_in, actions, audit, certify, check, create, game, grow, load, look, migrate, moves, session}
 use Rattle.command_line.proofs.words.command.Goals as goal
 

@@ -1,5 +1,5 @@
 use Rattle.std.proofs.lemmas.Result.{IfOk-at_ok, IfOk-weaker}
-use Rattle.command_line.specs.Building.{HasApp, leaf}
+use Rattle.command_line.specs.Commands.{HasApp, leaf}
 use Rattle.command_line.proofs.CommandLine.{more_command}
 use Rattle.command_line.proofs.words.with.Goals as goal
 

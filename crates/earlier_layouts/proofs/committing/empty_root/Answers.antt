@@ -1,7 +1,7 @@
 use Rattle.std.proofs.Common.{◌≡◌, ◌≤◌, ◌∙◌, inl, refl, sym, arith}
 use Rattle.game_file.specs.Fields.{layout_in, word_at}
-use Rattle.game_file.specs.aid.Goals.{goal_is}
-use Rattle.game_file.specs.aid.Words.{word_same}
+use Rattle.game_file.specs.lemmas.Goals.{goal_is}
+use Rattle.game_file.specs.lemmas.Words.{word_same}
 use Rattle.earlier_layouts.proofs.committing.empty_root.Goals as goal
 
 pub returns-clause-pages : goal.returns-clause-pages

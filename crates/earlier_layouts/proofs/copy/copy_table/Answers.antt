@@ -1,5 +1,5 @@
 use Rattle.table.proofs.Frames.{read_then}
-use Rattle.earlier_layouts.proofs.CopyPassing.{passed_on, leaves_after}
+use Rattle.earlier_layouts.proofs.CopyExits.{passed_on, leaves_after}
 use Rattle.earlier_layouts.proofs.copy.copy_table.Goals as goal
 
 pub returns-in_err-copy_order-clause-left : goal.returns-in_err-copy_order-clause-left

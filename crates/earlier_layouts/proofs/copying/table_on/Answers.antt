@@ -1,6 +1,6 @@
 use Rattle.table.specs.Records.{nothing}
-use Rattle.tree_table.specs.aid.Spelling.{table_is}
-use Rattle.tree_table.proofs.Holding.{holds_itself}
+use Rattle.tree_table.specs.lemmas.SpelledTable.{table_is}
+use Rattle.tree_table.proofs.HeldTable.{holds_itself}
 use Rattle.earlier_layouts.proofs.copying.table_on.Goals as goal
 
 pub invariant_of-result : goal.invariant_of-result

@@ -3,7 +3,7 @@ use Rattle.page_store.specs.Store.{reads}
 use Rattle.page_chain.specs.Chain.{IsChain, first_of}
 use Rattle.table.specs.Records.{nothing}
 use Rattle.tree_table.specs.declared.slot.TreeSlot.{TreeSlot}
-use Rattle.tree_table.specs.Working.{text_slot, HoldsTable}
+use Rattle.tree_table.specs.WorkTable.{text_slot, HoldsTable}
 use Rattle.tree_table.proofs.Bare.{text_holds}
 use Rattle.earlier_layouts.proofs.copying.write_text.Goals as goal
 
@@ -11,7 +11,7 @@ pub returns-clause-holds : goal.returns-clause-holds
 returns-clause-holds g c = λ honest.
     let text = c.args.text.now in
     let mid = g.P.Pages.store c.write_chain.new.store in
-    let told = c.in_ok-pages.ensures in
+    let told = c.in_ok-pages.ensures.ok in
     let pages = c.in_ok-pages.pages.items in
     let first_is : first_of pages ≡ c.first_page-first.result = sym (c.first_page-first.ensures ∙ ap first_of c.deref.ensures.value) in
     let is : text_slot c.args.packing 0 (first_of pages) (length text) c.args.packed ≡ c.slot_of.result =

@@ -1,12 +1,12 @@
 use Rattle.std.proofs.Common.{◌≡◌, Some, refl}
 use Rattle.std.proofs.lemmas.Result.{IfErr-weaker}
-use Rattle.page_store.specs.aid.Works.{works_refl, works_then}
+use Rattle.page_store.specs.lemmas.Works.{works_refl, works_then}
 use Rattle.table.specs.InMemory.{stored_in}
-use Rattle.tree_table.specs.Keeping.{IsSizedSlot}
-use Rattle.tree_table.specs.Working.{HoldsTable}
-use Rattle.earlier_layouts.specs.aid.MovingSteps.{HasFrameOf, StepCause}
+use Rattle.tree_table.specs.KeptTrees.{IsSizedSlot}
+use Rattle.tree_table.specs.WorkTable.{HoldsTable}
+use Rattle.earlier_layouts.specs.lemmas.MovingSteps.{HasFrameOf, StepCause}
 use Rattle.game_file.specs.declared.fault.FileFault.TheVariants.{Inconsistent}
-use Rattle.earlier_layouts.proofs.Carrying.{works_not_moved, game_copied, step_moves, root_moves, of_ok, of_done, of_err}
+use Rattle.earlier_layouts.proofs.CarriedFile.{works_not_moved, game_copied, step_moves, root_moves, of_ok, of_done, of_err}
 use Rattle.earlier_layouts.proofs.migration.move_game.Goals as goal
 
 pub returns-then-packed-eq0-clause-left : goal.returns-then-packed-eq0-clause-left
@@ -16,7 +16,8 @@ returns-then-packed-eq0-clause-left g c =
 
 pub returns-in-Err-clause-left : goal.returns-in-Err-clause-left
 returns-in-Err-clause-left g c =
-    works_not_moved (g.P.Pages.store c.args.store) (Some c.args.game) c.requires.whole c.requires.open (g.P.Pages.store c.write_text.new.store) c.in-Err.fault c.in-Err.ensures.works
+    works_not_moved (g.P.Pages.store c.args.store) (Some c.args.game) c.requires.whole c.requires.open
+    (g.P.Pages.store c.write_text.new.store) c.in-Err.fault c.in-Err.ensures.works
 
 pub returns-in-Err-clause-cause : goal.returns-in-Err-clause-cause
 returns-in-Err-clause-cause g c =
@@ -78,7 +79,8 @@ returns-in-Ok-result-clause-cause g c =
 
 pub returns-clause-left : goal.returns-clause-left
 returns-clause-left g c =
-    works_not_moved (g.P.Pages.store c.args.store) (Some c.args.game) c.requires.whole c.requires.open (g.P.Pages.store c.copy_on-store.result.store) c.in-Err-result.fault
+    works_not_moved (g.P.Pages.store c.args.store) (Some c.args.game) c.requires.whole c.requires.open
+    (g.P.Pages.store c.copy_on-store.result.store) c.in-Err-result.fault
     (works_then c.write_text.ensures.works c.copy_on-store.ensures.works)
 
 pub returns-clause-cause : goal.returns-clause-cause

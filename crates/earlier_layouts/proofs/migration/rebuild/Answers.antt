@@ -2,7 +2,7 @@ use Rattle.std.proofs.Common.{sym, subst}
 use Rattle.std.proofs.lemmas.Result.{IfErr-at_err}
 use Rattle.earlier_layouts.specs.Calls.{state_of}
 use Rattle.earlier_layouts.specs.InFile.{file_in}
-use Rattle.earlier_layouts.specs.Moving.{MoveCause}
+use Rattle.earlier_layouts.specs.MoveCauses.{MoveCause}
 use Rattle.earlier_layouts.proofs.migration.rebuild.Goals as goal
 
 pub returns-in-Err-clause-cause : goal.returns-in-Err-clause-cause

@@ -1,5 +1,5 @@
 use Rattle.std.proofs.Common.{◌≡◌}
-use Rattle.earlier_layouts.specs.aid.CopyParts.{with_order}
+use Rattle.earlier_layouts.specs.lemmas.CopyParts.{with_order}
 use Rattle.table.specs.Frames.{IsRead, IsWritten}
 use Rattle.earlier_layouts.proofs.order.copy_order.Given as goal
 

@@ -1,7 +1,7 @@
 use Rattle.std.proofs.Common.{◌≡◌, ◌∙◌, ap, ℕ, List, Some, slice_get}
 use Rattle.retrograde.specs.Stored.{Stored}
 use Rattle.retrograde.specs.Changes.{with_settled}
-use Rattle.earlier_layouts.proofs.CopyPassing.{told, told_done}
+use Rattle.earlier_layouts.proofs.CopyExits.{told, told_done}
 use Rattle.earlier_layouts.proofs.Lists.{place_more}
 use Rattle.earlier_layouts.proofs.order.copy_place.Goals as goal
 

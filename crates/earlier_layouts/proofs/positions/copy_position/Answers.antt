@@ -1,7 +1,7 @@
 use Rattle.std.proofs.Common.{◌≡◌, ◌∙◌, ap, subst, ℕ, List, Some, slice_get}
 use Rattle.retrograde.specs.Stored.{Stored, HasRecord}
 use Rattle.retrograde.specs.Changes.{with_position, with_record}
-use Rattle.earlier_layouts.proofs.CopyPassing.{told, told_done}
+use Rattle.earlier_layouts.proofs.CopyExits.{told, told_done}
 use Rattle.earlier_layouts.proofs.Lists.{is_new, position_more}
 use Rattle.earlier_layouts.proofs.positions.copy_position.Goals as goal
 

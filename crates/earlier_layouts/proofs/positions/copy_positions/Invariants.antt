@@ -1,5 +1,5 @@
 use Rattle.std.proofs.Common.{◌≡◌}
-use Rattle.earlier_layouts.specs.aid.CopyParts.{HasGoneOn, with_positions}
+use Rattle.earlier_layouts.specs.lemmas.CopyParts.{HasGoneOn, with_positions}
 use Rattle.table.specs.Frames.{IsRead}
 use Rattle.earlier_layouts.proofs.positions.copy_positions.Given as goal
 

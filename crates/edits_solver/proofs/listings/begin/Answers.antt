@@ -1,4 +1,4 @@
-use Rattle.edits_solver.proofs.Lasting.{begun_lasts}
+use Rattle.edits_solver.proofs.Parts.{begun_lasts}
 use Rattle.edits_solver.proofs.listings.begin.Goals as goal
 
 pub returns : goal.returns

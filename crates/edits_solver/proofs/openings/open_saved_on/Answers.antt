@@ -1,4 +1,4 @@
-use Rattle.edits_solver.proofs.Lasting.{ok_so}
+use Rattle.edits_solver.proofs.Parts.{ok_so}
 use Rattle.edits_solver.proofs.openings.open_saved_on.Goals as goal
 
 pub returns : goal.returns

@@ -1,9 +1,9 @@
 use Rattle.std.proofs.Common.{Bool, inl, inr, refl, sym, subst, ◌∙◌}
 use Rattle.std.specs.Prelude.{IsTrue}
 use Rattle.std.proofs.lemmas.Bool.{cases_lt}
-use Rattle.file_disk.specs.Waiting.{page_at}
-use Rattle.file_disk.proofs.Flushing.{puts_then}
-use Rattle.file_disk.proofs.Noting.{writes_then}
+use Rattle.file_disk.specs.WaitingSectors.{page_at}
+use Rattle.file_disk.proofs.Flushes.{puts_then}
+use Rattle.file_disk.proofs.Events.{writes_then}
 use Rattle.file_disk.proofs.flush.put_all.Goals as goal
 
 pub returns-in_default-put_from-clause-touched : goal.returns-in_default-put_from-clause-touched

@@ -1,7 +1,7 @@
 use Rattle.std.proofs.Common.{◌≡◌, ◌-◌, ◌^◌, ◌≤◌, true}
 use Rattle.std.specs.Prelude.{IsTrue}
 use Rattle.file_disk.specs.Touched.{WritesOnly}
-use Rattle.file_disk.specs.aid.Waiting.{AreInFile, Puts}
+use Rattle.file_disk.specs.lemmas.WaitingSectors.{AreInFile, Puts}
 use Rattle.file_disk.proofs.flush.put_all.Given as goal
 
 abbrev pub invariant-loop-place : goal.invariant-loop-place

@@ -1,9 +1,9 @@
 use Rattle.std.proofs.Common.{arith, ◌<◌, ◌≡◌, ◌+◌, ℕ, length, ap, subst}
 use Rattle.file_disk.specs.declared.waiting_page.WaitingPage.{WaitingPage}
-use Rattle.file_disk.specs.Waiting.{page_at}
-use Rattle.file_disk.specs.aid.Waiting.{AreInFile}
+use Rattle.file_disk.specs.WaitingSectors.{page_at}
+use Rattle.file_disk.specs.lemmas.WaitingSectors.{AreInFile}
 use Rattle.file_disk.proofs.Slots.{stands}
-use Rattle.file_disk.proofs.Flushing.{run_has}
+use Rattle.file_disk.proofs.Flushes.{run_has}
 use Rattle.file_disk.proofs.flush.put_from.Goals as goal
 
 pub returns-clause-put : goal.returns-clause-put

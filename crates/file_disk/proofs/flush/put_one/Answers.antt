@@ -1,6 +1,6 @@
 use Rattle.std.proofs.Common.{arith, ◌<◌, length}
 use Rattle.file_disk.proofs.Slots.{stands}
-use Rattle.file_disk.proofs.Flushing.{one_waits, one_put, true_on, on_true}
+use Rattle.file_disk.proofs.Flushes.{one_waits, one_put, true_on, on_true}
 use Rattle.file_disk.proofs.flush.put_one.Goals as goal
 
 pub put_slots-requires-clause-wait : goal.put_slots-requires-clause-wait

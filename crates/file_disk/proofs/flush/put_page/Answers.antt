@@ -1,8 +1,8 @@
 use Rattle.std.proofs.Common.{ℕ, arith, refl, sym, subst, below_more, ◌∙◌, Bool}
 use Rattle.std.specs.Prelude.{IsTrue}
-use Rattle.file_disk.specs.aid.Waiting.{IsInFile}
-use Rattle.file_disk.proofs.Flushing.{puts_then}
-use Rattle.file_disk.proofs.Noting.{writes_then}
+use Rattle.file_disk.specs.lemmas.WaitingSectors.{IsInFile}
+use Rattle.file_disk.proofs.Flushes.{puts_then}
+use Rattle.file_disk.proofs.Events.{writes_then}
 use Rattle.file_disk.proofs.flush.put_page.Goals as goal
 
 pub returns-then-not-put_one-clause-touched : goal.returns-then-not-put_one-clause-touched
@@ -17,7 +17,8 @@ loop-sector-preserved g c = (
       let so_far = c.loop-sector.invariant.0 honest in
       let this = c.if-not-put_one.ensures.puts now in (
         puts_then _ _ _ _ _ _ _ so_far.0 this,
-        below_more (λ (s : ℕ). IsInFile c.args.waiting.now.pages.items c.args.waiting.now.bytes.items (g.F.ByteFile.content c.put_one.new.file) c.args.place s) _
+        below_more (λ (s : ℕ). IsInFile c.args.waiting.now.pages.items c.args.waiting.now.bytes.items
+            (g.F.ByteFile.content c.put_one.new.file) c.args.place s) _
             (λ s lt. this.stays refl c.args.place s c.requires.there (omega arith) (so_far.1 s lt)) (c.if-not-put_one.ensures.put now),
         c.put_one.ensures.lasts now ∙ so_far.2,
         writes_then so_far.3 (c.put_one.ensures.touched now),

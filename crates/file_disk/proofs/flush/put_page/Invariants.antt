@@ -1,7 +1,7 @@
 use Rattle.std.proofs.Common.{◌≡◌, ℕ, ◌<◌, true}
 use Rattle.std.specs.Prelude.{IsTrue}
 use Rattle.file_disk.specs.Touched.{WritesOnly}
-use Rattle.file_disk.specs.aid.Waiting.{IsInFile, Puts}
+use Rattle.file_disk.specs.lemmas.WaitingSectors.{IsInFile, Puts}
 use Rattle.file_disk.proofs.flush.put_page.Given as goal
 
 abbrev pub invariant-loop-sector : goal.invariant-loop-sector

@@ -1,8 +1,8 @@
 use Rattle.std.proofs.Common.{arith, ◌<◌, ◌≡◌, ◌*◌, ◌+◌, ℕ, Some, length, ap, sym, subst}
 use Rattle.file_disk.specs.declared.waiting_page.WaitingPage.{WaitingPage}
-use Rattle.file_disk.specs.Waiting.{page_at, slot_of}
+use Rattle.file_disk.specs.WaitingSectors.{page_at, slot_of}
 use Rattle.file_disk.proofs.Slots.{stands}
-use Rattle.file_disk.proofs.Flushing.{run_waits, run_put, true_on, on_true}
+use Rattle.file_disk.proofs.Flushes.{run_waits, run_put, true_on, on_true}
 use Rattle.file_disk.proofs.flush.put_run.Goals as goal
 
 pub put_slots-requires-clause-wait : goal.put_slots-requires-clause-wait

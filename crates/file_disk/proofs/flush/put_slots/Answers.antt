@@ -1,6 +1,6 @@
 use Rattle.std.proofs.Common.{arith, ◌≤◌, ◌+◌, ◌*◌, length}
-use Rattle.file_disk.proofs.Flushing.{part_is, part_fits, write_puts, written_each, true_on, on_true}
-use Rattle.file_disk.proofs.Noting.{writes_tried, part_waits}
+use Rattle.file_disk.proofs.Flushes.{part_is, part_fits, write_puts, written_each, true_on, on_true}
+use Rattle.file_disk.proofs.Events.{writes_tried, part_waits}
 use Rattle.file_disk.proofs.flush.put_slots.Goals as goal
 
 pub returns-clause-puts : goal.returns-clause-puts
@@ -10,7 +10,8 @@ returns-clause-puts g c = λ honest.
     let inside : 512 * c.args.first + 512 * c.args.sectors ≤ length (g.F.ByteFile.content c.args.file.now) = omega (arith, c.requires.inside honest) in
     let is = part_is _ _ (512 * c.args.slot) (512 * c.args.sectors) c.deref.ensures.value in
     let fits = part_fits _ _ _ _ _ _ is within inside in
-    write_puts _ _ _ _ _ _ _ _ _ _ c.args.waiting.now.distinct c.requires.wait is within (c.write_at.ensures.others honest fits) (c.write_at.ensures.written honest fits)
+    write_puts _ _ _ _ _ _ _ _ _ _ c.args.waiting.now.distinct c.requires.wait is within (c.write_at.ensures.others honest fits)
+    (c.write_at.ensures.written honest fits)
 
 pub returns-clause-put : goal.returns-clause-put
 returns-clause-put g c = λ honest.

@@ -2,7 +2,7 @@ use Rattle.std.proofs.Common.{◌≤◌, ◌+◌, ◌*◌, take, drop}
 use Rattle.std.proofs.lemmas.Cmp.{nat_list_cmp_total}
 use Rattle.table.specs.Memory.{bytes_of_each}
 use Rattle.table.specs.declared.limits.TheConstants.{PAGES_PER_ENTRY}
-use Rattle.retrograde.specs.aid.Expansion.{AreNoted}
+use Rattle.retrograde.specs.lemmas.Expansion.{AreNoted}
 use Rattle.retrograde.specs.Successors.{packed_cmp}
 use Rattle.frontier.specs.Frames.{IsGrown}
 use Rattle.frontier.proofs.NumberLemmas.{IsReady}

@@ -1,13 +1,12 @@
-use Rattle.std.proofs.Common.{◌∙◌, ◌+◌, ◌<◌, ℕ, List, Err, All, not, ap, sym, subst, length, arith}
+use Rattle.std.proofs.Common.{◌∙◌, ◌+◌, ◌<◌, ℕ, List, All, not, ap, sym, subst, length, arith}
 use Rattle.std.proofs.lemmas.List.{length-map, length_push, take_all}
 use Rattle.std.proofs.lemmas.List.Elements.{All-nil, All-push, All-weaker}
 use Rattle.arrayvec.specs.ArrayVec.{ArrayVec}
 use Rattle.table.specs.Memory.{bytes_of_each}
 use Rattle.retrograde.specs.declared.records.Counts.{Counts}
 use Rattle.retrograde.specs.Stored.{Stored}
-use Rattle.frontier.specs.aid.Numbering.{AreNumbersOf}
-use Rattle.frontier.specs.declared.fault.StepFault.{StepFault}
-use Rattle.frontier.proofs.Passing.{passed_on, consistent}
+use Rattle.frontier.specs.lemmas.GivenNumbers.{AreNumbersOf}
+use Rattle.table.proofs.Exits.{passed_on}
 use Rattle.table.proofs.Frames.{unread, read_then}
 use Rattle.frontier.proofs.Frames.{out_of_memory, given_up_since}
 use Rattle.frontier.proofs.NumberLemmas.{IsNumberOf, numbers_push, next_after, pushed}
@@ -21,7 +20,8 @@ loop-position-preserved g c = record {
   few = omega (arith, c.loop-position.invariant.few, c.in_ok-number.ensures.within, c.max-next.ensures);
   lengths =
       let items = pushed _ _ _ _ (c.is_err.ensures.negation ∙ ap not c.if-is_err.false) c.push.ensures.items in
-      ap (λ (ns : List ℕ). length ns) items ∙ (length_push c.loop-position.each.items c.in_ok-number.number ∙ ap (λ (n : ℕ). n + 1) c.loop-position.invariant.lengths);
+      ap (λ (ns : List ℕ). length ns) items ∙
+      (length_push c.loop-position.each.items c.in_ok-number.number ∙ ap (λ (n : ℕ). n + 1) c.loop-position.invariant.lengths);
   within =
       let items = pushed _ _ _ _ (c.is_err.ensures.negation ∙ ap not c.if-is_err.false) c.push.ensures.items in
       let longer : (n : ℕ) → n < c.loop-position.next → n < c.max-next.result = λ n less. omega (arith, less, c.max-next.ensures) in
@@ -49,7 +49,8 @@ loop-position-init g c =
       known = let count = ap (λ (k : Counts). k.known) c.counts-next.ensures in omega arith;
       few = let count = ap (λ (k : Counts). k.known) c.counts-next.ensures in omega arith;
       lengths = ap (λ (ns : List ℕ). length ns) c.new-each.ensures.items;
-      within = subst (λ (ns : List ℕ). All (λ i. i < c.counts-next.result.known) ns) (sym c.new-each.ensures.items) (All-nil (λ i. i < c.counts-next.result.known));
+      within = subst (λ (ns : List ℕ). All (λ i. i < c.counts-next.result.known) ns) (sym c.new-each.ensures.items)
+          (All-nil (λ i. i < c.counts-next.result.known));
       numbers = λ honest.
           let count = ap (λ (k : Counts). k.known) (c.counts-next.ensures ∙ g.met.T.Table.counts_are _ honest) in
           rw c.new-each.ensures.items (sym count);
@@ -63,10 +64,6 @@ pub overflow_add-number : goal.overflow_add-number
 overflow_add-number g c =
     omega (arith, c.in_ok-number.ensures.within, c.loop-position.invariant.few, c.requires.limit, c.requires.few, c.loop-position-test.true)
 
-pub returns-in_err-number-clause-consistent : goal.returns-in_err-number-clause-consistent
-returns-in_err-number-clause-consistent g c =
-    consistent c.from_residual.result _ c.from_residual.ensures (λ is. c.in_err-number.ensures.consistent (ap (λ (f : StepFault). Err f) is))
-
 pub returns-then-is_err-clause-consistent : goal.returns-then-is_err-clause-consistent
 returns-then-is_err-clause-consistent g c =
     λ is. cc
@@ -79,21 +76,15 @@ returns-clause-numbers g c =
     subst (λ (ys : List (List ℕ)). AreNumbersOf (g.T.Table.stored c.args.table.now).positions (length (g.T.Table.stored c.args.table.now).positions) ys
     c.loop-position.each.items c.loop-position.next) all (c.loop-position.invariant.numbers honest)
 
-pub returns-clause-lengths : goal.returns-clause-lengths
-returns-clause-lengths g c =
-    omega (arith, c.loop-position.invariant.lengths, c.loop-position-test.false, c.loop-position.auto.position-index-end)
-
-pub returns-clause-within : goal.returns-clause-within
-returns-clause-within g c =
-    c.loop-position.invariant.within
-
-pub returns-clause-next : goal.returns-clause-next
-returns-clause-next g c =
-    c.loop-position.invariant.known
+pub returns-clause-given : goal.returns-clause-given
+returns-clause-given g c = record {
+  lengths = omega (arith, c.loop-position.invariant.lengths, c.loop-position-test.false, c.loop-position.auto.position-index-end);
+  within = c.loop-position.invariant.within;
+  next = c.loop-position.invariant.known;
+}
 
 pub returns-in_err-number-clause-read : goal.returns-in_err-number-clause-read
-returns-in_err-number-clause-read g c =
-    read_then g.met.T.Table.stays_then c.loop-position.invariant.read c.in_err-number.ensures.read
+returns-in_err-number-clause-read g c = read_then g.met.T.Table.stays_then c.loop-position.invariant.read c.in_err-number.ensures.read
 
 pub returns-in_err-number-clause-err : goal.returns-in_err-number-clause-err
 returns-in_err-number-clause-err g c =
@@ -102,13 +93,11 @@ returns-in_err-number-clause-err g c =
     c.in_err-number.ensures.err)
 
 pub returns-then-is_err-clause-read : goal.returns-then-is_err-clause-read
-returns-then-is_err-clause-read g c =
-    read_then g.met.T.Table.stays_then c.loop-position.invariant.read c.in_ok-number.ensures.read
+returns-then-is_err-clause-read g c = read_then g.met.T.Table.stays_then c.loop-position.invariant.read c.in_ok-number.ensures.read
 
 pub returns-then-is_err-clause-err : goal.returns-then-is_err-clause-err
 returns-then-is_err-clause-err g c =
     out_of_memory (g.met.T.Table.stays_goes_on _ _ (read_then g.met.T.Table.stays_then c.loop-position.invariant.read c.in_ok-number.ensures.read).stays)
 
 pub returns-clause-read : goal.returns-clause-read
-returns-clause-read g c =
-    c.loop-position.invariant.read
+returns-clause-read g c = c.loop-position.invariant.read

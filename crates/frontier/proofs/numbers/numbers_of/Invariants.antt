@@ -1,7 +1,7 @@
 use Rattle.std.proofs.Common.{◌≡◌, ◌+◌, ◌<◌, ◌≤◌, All, length, take}
 use Rattle.table.specs.Frames.{IsRead}
 use Rattle.table.specs.Memory.{bytes_of_each}
-use Rattle.frontier.specs.aid.Numbering.{AreNumbersOf}
+use Rattle.frontier.specs.lemmas.GivenNumbers.{AreNumbersOf}
 use Rattle.frontier.proofs.numbers.numbers_of.Given as goal
 
 abbrev pub invariant-loop-position : goal.invariant-loop-position

@@ -1,4 +1,4 @@
-use Rattle.game_table.specs.aid.Laws.{sound_tables_fit}
+use Rattle.game_table.specs.lemmas.Laws.{sound_tables_fit}
 use Rattle.game_table.proofs.laws.sound_tables_fit.Goals as goal
 
 pub returns : goal.returns

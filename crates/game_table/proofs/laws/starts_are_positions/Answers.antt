@@ -1,4 +1,4 @@
-use Rattle.game_table.specs.aid.Laws.{starts_are_positions}
+use Rattle.game_table.specs.lemmas.Laws.{starts_are_positions}
 use Rattle.game_table.proofs.laws.starts_are_positions.Goals as goal
 
 pub returns : goal.returns

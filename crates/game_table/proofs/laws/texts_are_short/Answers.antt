@@ -1,4 +1,4 @@
-use Rattle.game_table.specs.aid.Laws.{texts_are_short}
+use Rattle.game_table.specs.lemmas.Laws.{texts_are_short}
 use Rattle.game_table.proofs.laws.texts_are_short.Goals as goal
 
 pub returns : goal.returns

@@ -1,5 +1,5 @@
 use Rattle.legal_moves.specs.Sources.{IsWideAt, graph_of}
-use Rattle.game_table.specs.aid.Laws.{work_leads_to_one_table}
+use Rattle.game_table.specs.lemmas.Laws.{work_leads_to_one_table}
 use Rattle.game_table.proofs.laws.work_leads_to_one_table.Goals as goal
 
 pub returns : goal.returns

@@ -32,9 +32,7 @@ loop-number-init g c =
     record { packing = refl; read = unread g.met.T.Table.stays_here _; packed = λ honest i x below. absurd (omega (arith, below)) }
 
 pub returns-then-not-is_packed-clause-read : goal.returns-then-not-is_packed-clause-read
-returns-then-not-is_packed-clause-read g c =
-    read_then g.met.T.Table.stays_then c.loop-number.invariant.read c.in_ok-position.ensures.read
+returns-then-not-is_packed-clause-read g c = read_then g.met.T.Table.stays_then c.loop-number.invariant.read c.in_ok-position.ensures.read
 
 pub returns-in_err-position-clause-read : goal.returns-in_err-position-clause-read
-returns-in_err-position-clause-read g c =
-    read_then g.met.T.Table.stays_then c.loop-number.invariant.read c.in_err-position.ensures.read
+returns-in_err-position-clause-read g c = read_then g.met.T.Table.stays_then c.loop-number.invariant.read c.in_err-position.ensures.read

@@ -1,6 +1,6 @@
 use Rattle.std.proofs.Common.{◌≡◌, ◌<◌, ℕ, List, slice_get, Some}
 use Rattle.table.specs.Frames.{IsRead}
-use Rattle.game_table.specs.aid.Tables.{IsPackedBytes}
+use Rattle.game_table.specs.lemmas.Tables.{IsPackedBytes}
 use Rattle.game_table.proofs.packings.are_packed.Given as goal
 
 abbrev pub invariant-loop-number : goal.invariant-loop-number

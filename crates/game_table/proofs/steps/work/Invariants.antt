@@ -19,7 +19,8 @@ invariant-loop-done g l = record {
   by_units : g.T.Table.is_honest l.fn.table → IsLocallySound (g.M.GameGraph.graph l.fn.source) (g.M.GameGraph.is_wide l.fn.source) (g.T.Table.stored l.fn.table)
       → AreUnits (g.M.GameGraph.graph l.fn.source) (g.T.Table.stored l.fn.table) l.done (g.T.Table.stored l.table);
   takes : g.T.Table.is_honest l.fn.table → IsLocallySound (g.M.GameGraph.graph l.fn.source) (g.M.GameGraph.is_wide l.fn.source) (g.T.Table.stored l.fn.table)
-      → (entries : ℕ) × WriteAtMost (g.M.GameGraph.graph l.fn.source) (g.M.GameGraph.is_wide l.fn.source) (g.T.Table.stored l.fn.table) l.done (g.T.Table.stored l.table) entries
+      → (entries : ℕ) × WriteAtMost (g.M.GameGraph.graph l.fn.source) (g.M.GameGraph.is_wide l.fn.source)
+      (g.T.Table.stored l.fn.table) l.done (g.T.Table.stored l.table) entries
       × (g.T.Table.free l.fn.table ≤ g.T.Table.free l.table + PAGES_PER_ENTRY * entries);
   fits : g.T.Table.is_honest l.fn.table → IsTable (g.T.Table.stored l.fn.table) → IsTable (g.T.Table.stored l.table);
   idle : l.done ≡ 0 → l.table ≡ l.fn.table;

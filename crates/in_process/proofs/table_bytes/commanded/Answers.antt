@@ -1,4 +1,4 @@
-use Rattle.in_process.proofs.Answering.{answered}
+use Rattle.in_process.proofs.Answered.{answered}
 use Rattle.in_process.proofs.table_bytes.commanded.Goals as goal
 
 pub returns : goal.returns

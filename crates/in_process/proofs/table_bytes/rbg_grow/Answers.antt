@@ -3,7 +3,7 @@ use Rattle.std.proofs.lemmas.List.{take_min}
 use Rattle.session.specs.Commands.{IsGrow}
 use Rattle.tree_table.specs.Held.{StoresTrees}
 use Rattle.in_process.specs.Calls.{IsCalled}
-use Rattle.in_process.proofs.Answering.{same_bytes, same_call}
+use Rattle.in_process.proofs.Answered.{same_bytes, same_call}
 use Rattle.in_process.proofs.table_bytes.rbg_grow.Goals as goal
 
 pub returns : goal.returns

@@ -1,7 +1,7 @@
 use Rattle.std.proofs.Common.{Some, ap}
 use Rattle.session.specs.Commands.{IsLoad}
 use Rattle.tree_table.specs.Held.{StoresTrees}
-use Rattle.in_process.proofs.Answering.{same_call}
+use Rattle.in_process.proofs.Answered.{same_call}
 use Rattle.in_process.proofs.table_bytes.rbg_load.Goals as goal
 
 pub returns-in-Some-clause-with_goal : goal.returns-in-Some-clause-with_goal

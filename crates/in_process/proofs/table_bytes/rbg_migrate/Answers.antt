@@ -1,5 +1,5 @@
 use Rattle.in_process.specs.Calls.{IsCalled}
-use Rattle.in_process.proofs.Answering.{answered}
+use Rattle.in_process.proofs.Answered.{answered}
 use Rattle.in_process.proofs.table_bytes.rbg_migrate.Goals as goal
 
 pub returns : goal.returns

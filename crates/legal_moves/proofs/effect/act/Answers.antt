@@ -40,7 +40,8 @@ said : (op : Comparison) (x y : ℤ) → SFits w64 x → SFits w64 y → Compare
 said op x y fits fits' h = subst (λ n. Compares op n y) (to_z-of_z w64 x fits) (subst (Compares op (to_z w64 (of_z w64 x))) (to_z-of_z w64 y fits') h)
 
 asked : (op : Comparison) (x y : ℤ) → SFits w64 x → SFits w64 y → Compares op x y → Compares op (to_z w64 (of_z w64 x)) (to_z w64 (of_z w64 y))
-asked op x y fits fits' h = subst (λ n. Compares op n (to_z w64 (of_z w64 y))) (sym (to_z-of_z w64 x fits)) (subst (Compares op x) (sym (to_z-of_z w64 y fits')) h)
+asked op x y fits fits' h = subst (λ n. Compares op n (to_z w64 (of_z w64 y))) (sym (to_z-of_z w64 x fits))
+    (subst (Compares op x) (sym (to_z-of_z w64 y fits')) h)
 
 lacks : (xs : List ℕ) (x : ℕ) (r : Bool) → IsAnyAnswer (λ y b. nat_eq y x ≡ b) xs r → OnFalse r (¬ Contains xs x)
 lacks xs x true h = tt
@@ -52,8 +53,10 @@ returns-in-Some-clause-valid c =
     let S = c.args.state.now in
     let action = ap action_of c.in-Shift.is ∙ action_of-Shift c.in-Shift.label in
     let item = subst (λ i. c.index.result.now ≡ get_or game.vertices.items i c.index.result.now) c.from.ensures c.index.ensures in
-    let leads = neighbour_is game S.vertex c.in-Shift.label c.index.result.now (omega (arith, length-map game.vertices.items vertex_of, c.requires.state.vertex_is)) item in
-    subst (λ a. Effect (game_of game) a S (record S { vertex = c.in-Some.to })) (sym action) (c.in-Some.to, leads ∙ sym c.neighbour.ensures ∙ c.in-Some.is, refl)
+    let leads = neighbour_is game S.vertex c.in-Shift.label c.index.result.now
+    (omega (arith, length-map game.vertices.items vertex_of, c.requires.state.vertex_is)) item in
+    subst (λ a. Effect (game_of game) a S (record S { vertex = c.in-Some.to })) (sym action)
+    (c.in-Some.to, leads ∙ sym c.neighbour.ensures ∙ c.in-Some.is, refl)
 
 pub returns-in-None-clause-refused : goal.returns-in-None-clause-refused
 returns-in-None-clause-refused c =
@@ -61,7 +64,8 @@ returns-in-None-clause-refused c =
     let S = c.args.state.now in
     let action = ap action_of c.in-Shift.is ∙ action_of-Shift c.in-Shift.label in
     let item = subst (λ i. c.index.result.now ≡ get_or game.vertices.items i c.index.result.now) c.from.ensures c.index.ensures in
-    let leads = neighbour_is game S.vertex c.in-Shift.label c.index.result.now (omega (arith, length-map game.vertices.items vertex_of, c.requires.state.vertex_is)) item in
+    let leads = neighbour_is game S.vertex c.in-Shift.label c.index.result.now
+    (omega (arith, length-map game.vertices.items vertex_of, c.requires.state.vertex_is)) item in
     λ T h.
     let some = subst (λ a. Effect (game_of game) a S T) action h in
     let never : None ≡ Some some.0 = sym c.in-None.is ∙ c.neighbour.ensures ∙ sym leads ∙ some.1 in
@@ -72,7 +76,8 @@ returns-in-On-clause-valid c =
     let game = c.args.game.now in
     let S = c.args.state.now in
     let action = ap action_of c.in-On.is ∙ action_of-On c.in-On.pieces in
-    OnTrue-along c.contains.result (Contains c.deref.result.now (get_or c.deref-in-On.result.now c.from-in-On.result 0)) (Effect (game_of game) (action_of c.args.action.now) S S)
+    OnTrue-along c.contains.result (Contains c.deref.result.now (get_or c.deref-in-On.result.now c.from-in-On.result 0))
+    (Effect (game_of game) (action_of c.args.action.now) S S)
     (λ h. subst (λ a. Effect (game_of game) a S S) (sym action) (
       refl,
       subst (λ xs. Contains xs (slice_index S.pieces.items S.vertex)) c.deref.ensures.value
@@ -86,7 +91,8 @@ returns-in-Off-clause-valid c =
     let game = c.args.game.now in
     let S = c.args.state.now in
     let action = ap action_of c.in-Off.is ∙ action_of-Off c.in-Off.piece in
-    let written = refill-set S.pieces.items c.deref_mut.result.now c.from-in-Off.result c.in-Off.piece c.deref_mut.ensures.value ∙ ap (λ i. slice_set S.pieces.items i c.in-Off.piece) c.from-in-Off.ensures in
+    let written = refill-set S.pieces.items c.deref_mut.result.now c.from-in-Off.result c.in-Off.piece c.deref_mut.ensures.value
+    ∙ ap (λ i. slice_set S.pieces.items i c.in-Off.piece) c.from-in-Off.ensures in
     subst (λ xs. Effect (game_of game) (action_of c.args.action.now) S (record S { pieces = record { items = xs } })) (sym written)
     (subst (λ a. Effect (game_of game) a S (record S { pieces = record { items = slice_set S.pieces.items S.vertex c.in-Off.piece } })) (sym action) refl)
 
@@ -101,12 +107,22 @@ returns-then-n-from-clause-valid c =
     let is = c.value-n.ensures ∙ ap (λ xs. value_of xs e) c.deref-in-Assignment.ensures.0 in
     let plain = subst (IsPlain S.values.items) action c.requires.plain in
     let item = subst (λ i. c.index-in-Assignment.result.now ≡ get_or game.variables.items i c.index-in-Assignment.result.now) c.from-in-Assignment.ensures c.index-in-Assignment.ensures in
-    let bound = bound_is game v c.index-in-Assignment.result.now (omega (arith, length-map game.variables.items variable_of, c.requires.state.values_fit, plain.0)) item in
+    let bound = bound_is game v c.index-in-Assignment.result.now
+    (omega (arith, length-map game.variables.items variable_of, c.requires.state.values_fit, plain.0)) item in
     let cap_fits : SFits w64 c.from-then-n-ge0.result = record { sfits = c.from-then-n-ge0.type_inv } in
     let cap : to_z w64 (of_z w64 c.from-then-n-ge0.result) ≡ c.from-then-n-ge0.result = to_z-of_z w64 c.from-then-n-ge0.result cap_fits in
-    let written = refill-set S.values.items c.deref_mut-then-n-from.result.now c.from-then-n-from.result (nat_abs (to_z w64 (of_z w64 c.value-n.result))) c.deref_mut-then-n-from.ensures.value ∙ ap (λ i. slice_set S.values.items i (nat_abs (to_z w64 (of_z w64 c.value-n.result)))) c.from-then-n-from.ensures in
-    subst (λ a. Effect (game_of game) a S (record S { values = record { items = refill (length S.values.items) S.values.items (slice_set c.deref_mut-then-n-from.result.now c.from-then-n-from.result (nat_abs (to_z w64 (of_z w64 c.value-n.result)))) } })) (sym action)
-    (assigns (game_of game) S v e c.value-n.result c.from-then-n-ge0.result _ fits is c.if-n-ge0.true (subst (λ b. le_z (to_z w64 (of_z w64 c.value-n.result)) b ≡ true) cap c.if-n-from.true) (c.from-then-n-ge0.ensures ∙ ap pos (sym bound)) written)
+    let written = refill-set S.values.items c.deref_mut-then-n-from.result.now c.from-then-n-from.result
+    (nat_abs (to_z w64 (of_z w64 c.value-n.result))) c.deref_mut-then-n-from.ensures.value
+    ∙ ap (λ i. slice_set S.values.items i (nat_abs (to_z w64 (of_z w64 c.value-n.result)))) c.from-then-n-from.ensures in
+    subst (λ a. Effect (game_of game) a S
+    (record S {
+      values = record {
+        items = refill (length S.values.items) S.values.items
+            (slice_set c.deref_mut-then-n-from.result.now c.from-then-n-from.result (nat_abs (to_z w64 (of_z w64 c.value-n.result))));
+      };
+    })) (sym action)
+    (assigns (game_of game) S v e c.value-n.result c.from-then-n-ge0.result _ fits is c.if-n-ge0.true
+    (subst (λ b. le_z (to_z w64 (of_z w64 c.value-n.result)) b ≡ true) cap c.if-n-from.true) (c.from-then-n-ge0.ensures ∙ ap pos (sym bound)) written)
 
 pub returns-else-n-ge0-clause-refused : goal.returns-else-n-ge0-clause-refused
 returns-else-n-ge0-clause-refused c =
@@ -120,11 +136,15 @@ returns-else-n-ge0-clause-refused c =
     let is = same ∙ c.value-n.ensures ∙ ap (λ xs. value_of xs e) c.deref-in-Assignment.ensures.0 in
     let plain = subst (IsPlain S.values.items) action c.requires.plain in
     let item = subst (λ i. c.index-in-Assignment.result.now ≡ get_or game.variables.items i c.index-in-Assignment.result.now) c.from-in-Assignment.ensures c.index-in-Assignment.ensures in
-    let bound = bound_is game v c.index-in-Assignment.result.now (omega (arith, length-map game.variables.items variable_of, c.requires.state.values_fit, plain.0)) item in
+    let bound = bound_is game v c.index-in-Assignment.result.now
+    (omega (arith, length-map game.variables.items variable_of, c.requires.state.values_fit, plain.0)) item in
     λ T h.
     let effect = subst (λ a. Effect (game_of game) a S T) action h in
     elim c.else-n-ge0.branch [
-      | else-n-ge0-via-then-n-ge0+else-n-from w ↦ not_above (game_of game) S v e (to_z w64 (of_z w64 c.value-n.result)) T is effect (subst (λ b. le_z (to_z w64 (of_z w64 c.value-n.result)) b ≡ false) (to_z-of_z w64 w.from-then-n-ge0.result (record { sfits = w.from-then-n-ge0.type_inv }) ∙ w.from-then-n-ge0.ensures ∙ ap pos (sym bound)) w.if-n-from.false)
+      | else-n-ge0-via-then-n-ge0+else-n-from w ↦ not_above (game_of game) S v e (to_z w64 (of_z w64 c.value-n.result)) T is effect
+          (subst (λ b. le_z (to_z w64 (of_z w64 c.value-n.result)) b ≡ false)
+          (to_z-of_z w64 w.from-then-n-ge0.result (record { sfits = w.from-then-n-ge0.type_inv }) ∙ w.from-then-n-ge0.ensures
+          ∙ ap pos (sym bound)) w.if-n-from.false)
       | else-n-ge0-via-else-n-ge0 w ↦ not_below (game_of game) S v e (to_z w64 (of_z w64 c.value-n.result)) T is effect w.if-n-ge0.false
     ]
 
@@ -190,7 +210,8 @@ returns-in-Comparison-clause-valid c =
     when_true c.compares.result (λ is. subst (λ a. Effect (game_of game) a S S) (sym action) (
       refl,
       subst (λ n. Compares op n (value_of S.values.items (expression_of right))) x (subst (Compares op c.value.result) y
-          (said op c.value.result c.value-in-Comparison.result (record { sfits = c.value.type_inv }) (record { sfits = c.value-in-Comparison.type_inv }) (c.compares.ensures.0 is))),
+          (said op c.value.result c.value-in-Comparison.result (record { sfits = c.value.type_inv })
+          (record { sfits = c.value-in-Comparison.type_inv }) (c.compares.ensures.0 is))),
     ))
 
 pub returns-in-Comparison-clause-refused : goal.returns-in-Comparison-clause-refused
@@ -205,8 +226,11 @@ returns-in-Comparison-clause-refused c =
     let y = c.value-in-Comparison.ensures ∙ ap (λ vs. value_of vs (expression_of right)) c.deref-in-Comparison-2.ensures.0 in
     when_false c.compares.result (λ is T h.
     let effect = subst (λ a. Effect (game_of game) a S T) action h in
-    let holds = subst (λ n. Compares op n c.value-in-Comparison.result) (sym x) (subst (Compares op (value_of S.values.items (expression_of left))) (sym y) effect.1) in
-    let never : true ≡ false = sym (c.compares.ensures.1 (asked op c.value.result c.value-in-Comparison.result (record { sfits = c.value.type_inv }) (record { sfits = c.value-in-Comparison.type_inv }) holds)) ∙ is in
+    let holds = subst (λ n. Compares op n c.value-in-Comparison.result) (sym x)
+    (subst (Compares op (value_of S.values.items (expression_of left))) (sym y) effect.1) in
+    let never : true ≡ false = sym (c.compares.ensures.1
+    (asked op c.value.result c.value-in-Comparison.result (record { sfits = c.value.type_inv })
+    (record { sfits = c.value-in-Comparison.type_inv }) holds)) ∙ is in
     cc)
 
 pub returns-in-On-clause-refused : goal.returns-in-On-clause-refused
@@ -215,9 +239,11 @@ returns-in-On-clause-refused c =
     let S = c.args.state.now in
     let action = ap action_of c.in-On.is ∙ action_of-On c.in-On.pieces in
     let piece = get_or c.deref-in-On.result.now c.from-in-On.result 0 in
-    let here : piece ≡ slice_index S.pieces.items S.vertex = ap (λ ys. get_or ys c.from-in-On.result 0) c.deref-in-On.ensures.0 ∙ ap (λ i. get_or S.pieces.items i 0) c.from-in-On.ensures in
+    let here : piece ≡ slice_index S.pieces.items S.vertex = ap (λ ys. get_or ys c.from-in-On.result 0) c.deref-in-On.ensures.0
+    ∙ ap (λ i. get_or S.pieces.items i 0) c.from-in-On.ensures in
     OnFalse-along c.contains.result (¬ Contains c.deref.result.now piece) ((T : SemiState) → ¬ Effect (game_of game) (action_of c.args.action.now) S T)
-    (λ none T h. none (subst (Contains c.deref.result.now) (sym here) (subst (λ xs. Contains xs (slice_index S.pieces.items S.vertex)) (sym c.deref.ensures.value) (subst (λ a. Effect (game_of game) a S T) action h).1)))
+    (λ none T h. none (subst (Contains c.deref.result.now) (sym here)
+    (subst (λ xs. Contains xs (slice_index S.pieces.items S.vertex)) (sym c.deref.ensures.value) (subst (λ a. Effect (game_of game) a S T) action h).1)))
     (lacks c.deref.result.now piece c.contains.result c.contains.ensures.cases)
 
 pub value-requires-clause-names : goal.value-requires-clause-names

@@ -3,7 +3,7 @@ use Rattle.rbg_game.specs.Meaning.{game_of, action_of}
 use Rattle.rbg_game.specs.Positions.{IsStateOf}
 use Rattle.rbg_game.specs.declared.position.SemiState.{SemiState}
 use Rattle.legal_moves.specs.Plain.{IsPlain}
-use Rattle.legal_moves.specs.aid.Looking.{GlanceTells}
+use Rattle.legal_moves.specs.lemmas.VertexSearch.{GlanceTells}
 use Rattle.legal_moves.proofs.effect.at_a_glance.Goals as goal
 
 -- the semi-state with these pieces and values, at this vertex
@@ -26,4 +26,5 @@ returns c =
     let S = c.args.state.now in
     let a = action_of c.args.action.now in
     subst (λ vs. GlanceTells game a (laid_out S S.pieces.items vs c.args.vertex) c.glance_where_seen.result) c.deref-2.ensures.0
-    (subst (λ ps. GlanceTells game a (laid_out S ps c.deref-2.result.now c.args.vertex) c.glance_where_seen.result) c.deref.ensures.0 c.glance_where_seen.ensures)
+    (subst (λ ps. GlanceTells game a
+    (laid_out S ps c.deref-2.result.now c.args.vertex) c.glance_where_seen.result) c.deref.ensures.0 c.glance_where_seen.ensures)

@@ -9,7 +9,7 @@ use Rattle.rbg_game.specs.Meaning.{game_of, action_of, expression_of}
 use Rattle.rbg_game.proofs.MeaningLemmas.{action_of-Assignment}
 use Rattle.legal_moves.specs.Effects.{Effect}
 use Rattle.legal_moves.specs.Plain.{IsPlain}
-use Rattle.legal_moves.specs.aid.Seen.{state_seen}
+use Rattle.legal_moves.specs.lemmas.Seen.{state_seen}
 use Rattle.legal_moves.proofs.effect.leaves.Goals as goal
 
 -- what holds where the test says so
@@ -30,7 +30,8 @@ returns-in-Assignment c =
     let y = c.from-in-Assignment-2.result in
     when_true _ (λ is.
     let machine : of_z w64 x ≡ of_z w64 y = eqb-true (of_z w64 x) (of_z w64 y) is in
-    let same : x ≡ y = sym (to_z-of_z w64 x (record { sfits = c.value.type_inv })) ∙ ap (to_z w64) machine ∙ to_z-of_z w64 y (record { sfits = c.from-in-Assignment-2.type_inv }) in
+    let same : x ≡ y = sym (to_z-of_z w64 x (record { sfits = c.value.type_inv })) ∙ ap (to_z w64) machine
+    ∙ to_z-of_z w64 y (record { sfits = c.from-in-Assignment-2.type_inv }) in
     let there : y ≡ pos n = c.from-in-Assignment-2.ensures ∙ ap (λ i. pos (slice_index S.values.items i)) c.from-in-Assignment.ensures in
     let value : value_of S.values.items e ≡ pos n = sym c.value.ensures ∙ same ∙ there in
     let bound : n ≤ bound_of game v = c.requires.state.values_are v plain.0 in

@@ -1,9 +1,9 @@
 use Rattle.std.proofs.Common.{◌≡◌, ℕ, map, sym, subst}
 use Rattle.arrayvec.specs.ArrayVec.{ArrayVec}
-use Rattle.legal_moves.specs.aid.Boards.{boards_in}
-use Rattle.legal_moves.specs.aid.Ends.{ends_packed}
-use Rattle.legal_moves.specs.aid.Standing.{stood, AllStand}
-use Rattle.legal_moves.proofs.PackedEnds.{ascending}
+use Rattle.legal_moves.specs.lemmas.Boards.{boards_in}
+use Rattle.legal_moves.specs.lemmas.Ends.{ends_packed}
+use Rattle.legal_moves.specs.lemmas.Stands.{stood, AllStand}
+use Rattle.legal_moves.proofs.answers.PackedEnds.{ascending}
 use Rattle.legal_moves.proofs.ends.ascending_ends.Goals as goal
 
 pub packed_ends-requires-clause-whole : goal.packed_ends-requires-clause-whole

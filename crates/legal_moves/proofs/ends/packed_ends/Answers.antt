@@ -3,11 +3,11 @@ use Rattle.std.proofs.lemmas.List.{map-append}
 use Rattle.std.proofs.lemmas.Option.{slice_get-get_or}
 use Rattle.arrayvec.specs.ArrayVec.{ArrayVec}
 use Rattle.position_pack.specs.Packings.{packed_by}
-use Rattle.legal_moves.specs.aid.Boards.{boards_in}
-use Rattle.legal_moves.specs.aid.Ends.{ends_packed}
-use Rattle.legal_moves.specs.aid.Standing.{stood}
-use Rattle.legal_moves.proofs.StandingLemmas.{stood_at}
-use Rattle.legal_moves.proofs.PackedEnds.{packed_skip, packed_more}
+use Rattle.legal_moves.specs.lemmas.Boards.{boards_in}
+use Rattle.legal_moves.specs.lemmas.Ends.{ends_packed}
+use Rattle.legal_moves.specs.lemmas.Stands.{stood}
+use Rattle.legal_moves.proofs.searches.StandLemmas.{stood_at}
+use Rattle.legal_moves.proofs.answers.PackedEnds.{packed_skip, packed_more}
 use Rattle.legal_moves.proofs.ends.packed_ends.Goals as goal
 
 pub loop-stand-preserved-then-not-stand : goal.loop-stand-preserved-then-not-stand

@@ -1,7 +1,7 @@
 use Rattle.std.proofs.Common.{◌≡◌, map, take}
-use Rattle.legal_moves.specs.aid.Boards.{boards_in}
-use Rattle.legal_moves.specs.aid.Ends.{ends_packed}
-use Rattle.legal_moves.specs.aid.Standing.{stood}
+use Rattle.legal_moves.specs.lemmas.Boards.{boards_in}
+use Rattle.legal_moves.specs.lemmas.Ends.{ends_packed}
+use Rattle.legal_moves.specs.lemmas.Stands.{stood}
 use Rattle.legal_moves.proofs.ends.packed_ends.Given as goal
 
 abbrev pub invariant-loop-stand : goal.invariant-loop-stand

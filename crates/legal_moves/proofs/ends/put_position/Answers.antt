@@ -1,5 +1,5 @@
 use Rattle.std.proofs.Common.{arith}
-use Rattle.legal_moves.proofs.BoardLemmas.{many_boards}
+use Rattle.legal_moves.proofs.searches.BoardLemmas.{many_boards}
 use Rattle.legal_moves.proofs.ends.put_position.Goals as goal
 
 pub put-requires-clause-board : goal.put-requires-clause-board

@@ -1,5 +1,5 @@
-use Rattle.legal_moves.proofs.FieldLemmas.{role_is, leader_is}
-use Rattle.legal_moves.proofs.SourceLemmas.{one_position}
+use Rattle.legal_moves.proofs.answers.FieldLemmas.{role_is, leader_is}
+use Rattle.legal_moves.proofs.answers.SourceLemmas.{one_position}
 use Rattle.legal_moves.proofs.laws.bytes_say.Goals as goal
 
 pub returns-clause-mover_and_leader : goal.returns-clause-mover_and_leader

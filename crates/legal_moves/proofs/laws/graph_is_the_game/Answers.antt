@@ -1,4 +1,4 @@
-use Rattle.legal_moves.proofs.GraphLemmas.{ended_by_bytes, ended_by_moves, plays_reach, reached_by_plays}
+use Rattle.legal_moves.proofs.answers.GraphLemmas.{ended_by_bytes, ended_by_moves, plays_reach, reached_by_plays}
 use Rattle.legal_moves.proofs.laws.graph_is_the_game.Goals as goal
 
 pub returns-clause-ends : goal.returns-clause-ends

@@ -1,7 +1,7 @@
 use Rattle.std.proofs.Common.{sym, subst, ◌∷◌, []}
 use Rattle.legal_moves.specs.Moves.{IsSuccessor, start_of}
 use Rattle.rbg_game.specs.Take.{take}
-use Rattle.legal_moves.proofs.TakeLemmas.{first_move, only_successor}
+use Rattle.legal_moves.proofs.answers.TakeLemmas.{first_move, only_successor}
 use Rattle.legal_moves.proofs.laws.small_game.Goals as goal
 
 pub returns : goal.returns

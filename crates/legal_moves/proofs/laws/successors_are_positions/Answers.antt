@@ -1,4 +1,4 @@
-use Rattle.legal_moves.proofs.ReachLemmas.{position_of}
+use Rattle.legal_moves.proofs.answers.ReachLemmas.{position_of}
 use Rattle.legal_moves.proofs.laws.successors_are_positions.Goals as goal
 
 pub returns : goal.returns

@@ -1,4 +1,4 @@
-use Rattle.page_chain.proofs.Reading.{IsRead}
+use Rattle.page_chain.proofs.ReadPages.{IsRead}
 use Rattle.page_chain.proofs.read.read_chain.Given as goal
 
 abbrev pub invariant-loop : goal.invariant-loop

@@ -3,11 +3,12 @@ use Rattle.page_store.specs.declared.marks.Mark.{Mark}
 use Rattle.page_store.specs.declared.marks.Mark.TheVariants.{Committed}
 use Rattle.page_store.specs.Marks.{IsMarked}
 use Rattle.page_store.specs.Store.{Store}
-use Rattle.page_store.specs.aid.Works.{works_then}
+use Rattle.page_store.specs.lemmas.Works.{works_then}
 use Rattle.sector_disk.specs.Disk.{Disk}
-use Rattle.sector_disk.specs.aid.Moments.{still_honest}
-use Rattle.page_store.specs.aid.Marking.{OnlyMarks}
-use Rattle.page_chain.proofs.Reading.{one_marked, only_marks_refl, leaves_same}
+use Rattle.sector_disk.specs.lemmas.Moments.{still_honest}
+use Rattle.page_store.specs.Frames.{OnlyMarks}
+use Rattle.page_store.specs.lemmas.Frames.{marks_none}
+use Rattle.page_chain.proofs.ReadPages.{one_marked, leaves_same}
 use Rattle.page_chain.proofs.read.read_link.Goals as goal
 
 pub returns-clause-marks : goal.returns-clause-marks
@@ -18,11 +19,13 @@ returns-clause-marks g c =
     (λ honest. reading.unchanged.shown (still_honest marking.works.goes_on honest) ∙ ap (λ (d : Disk). d.now) marking.others.disk)
     (leaves_same _ _ (g.P.Pages.store c.read_page.new.self).disk marking.others.disk reading.unchanged.leaves)
     (reading.unchanged.closed ∙ marking.others.closed)
-    (subst (λ (ms : List Mark). IsMarked c.args.page Committed (g.P.Pages.store c.args.store.now).marks ms) (sym reading.unchanged.marks) c.in_ok-mark.ensures.ok)
+    (subst (λ (ms : List Mark). IsMarked c.args.page Committed (g.P.Pages.store c.args.store.now).marks ms)
+    (sym reading.unchanged.marks) c.in_ok-mark.ensures.ok)
 
 pub returns-in_err-mark-clause-marks : goal.returns-in_err-mark-clause-marks
 returns-in_err-mark-clause-marks g c =
-    subst (λ (store : Store). OnlyMarks (g.P.Pages.store c.args.store.now) store) (sym c.in_err-mark.ensures.refused) (only_marks_refl (g.P.Pages.store c.args.store.now))
+    subst (λ (store : Store). OnlyMarks (g.P.Pages.store c.args.store.now) store) (sym c.in_err-mark.ensures.refused)
+    (marks_none (g.P.Pages.store c.args.store.now))
 
 pub returns-in_err-read_page-clause-marks : goal.returns-in_err-read_page-clause-marks
 returns-in_err-read_page-clause-marks g c =
@@ -32,7 +35,8 @@ returns-in_err-read_page-clause-marks g c =
     (λ honest. reading.unchanged.shown (still_honest marking.works.goes_on honest) ∙ ap (λ (d : Disk). d.now) marking.others.disk)
     (leaves_same _ _ (g.P.Pages.store c.read_page.new.self).disk marking.others.disk reading.unchanged.leaves)
     (reading.unchanged.closed ∙ marking.others.closed)
-    (subst (λ (ms : List Mark). IsMarked c.args.page Committed (g.P.Pages.store c.args.store.now).marks ms) (sym reading.unchanged.marks) c.in_ok-mark.ensures.ok)
+    (subst (λ (ms : List Mark). IsMarked c.args.page Committed (g.P.Pages.store c.args.store.now).marks ms)
+    (sym reading.unchanged.marks) c.in_ok-mark.ensures.ok)
 
 pub returns-in_err-add_page-clause-marks : goal.returns-in_err-add_page-clause-marks
 returns-in_err-add_page-clause-marks g c =
@@ -42,7 +46,8 @@ returns-in_err-add_page-clause-marks g c =
     (λ honest. reading.unchanged.shown (still_honest marking.works.goes_on honest) ∙ ap (λ (d : Disk). d.now) marking.others.disk)
     (leaves_same _ _ (g.P.Pages.store c.read_page.new.self).disk marking.others.disk reading.unchanged.leaves)
     (reading.unchanged.closed ∙ marking.others.closed)
-    (subst (λ (ms : List Mark). IsMarked c.args.page Committed (g.P.Pages.store c.args.store.now).marks ms) (sym reading.unchanged.marks) c.in_ok-mark.ensures.ok)
+    (subst (λ (ms : List Mark). IsMarked c.args.page Committed (g.P.Pages.store c.args.store.now).marks ms)
+    (sym reading.unchanged.marks) c.in_ok-mark.ensures.ok)
 
 pub returns-in_err-add_payload-clause-marks : goal.returns-in_err-add_payload-clause-marks
 returns-in_err-add_payload-clause-marks g c =
@@ -52,4 +57,5 @@ returns-in_err-add_payload-clause-marks g c =
     (λ honest. reading.unchanged.shown (still_honest marking.works.goes_on honest) ∙ ap (λ (d : Disk). d.now) marking.others.disk)
     (leaves_same _ _ (g.P.Pages.store c.read_page.new.self).disk marking.others.disk reading.unchanged.leaves)
     (reading.unchanged.closed ∙ marking.others.closed)
-    (subst (λ (ms : List Mark). IsMarked c.args.page Committed (g.P.Pages.store c.args.store.now).marks ms) (sym reading.unchanged.marks) c.in_ok-mark.ensures.ok)
+    (subst (λ (ms : List Mark). IsMarked c.args.page Committed (g.P.Pages.store c.args.store.now).marks ms)
+    (sym reading.unchanged.marks) c.in_ok-mark.ensures.ok)

@@ -1,19 +1,21 @@
 use Rattle.std.proofs.Common.{◌≡◌, ℕ, sym, subst, arith}
 use Rattle.page_store.specs.Store.{Store}
-use Rattle.page_chain.specs.aid.Links.{HandsOut, AreTaken}
-use Rattle.page_chain.proofs.Passing.{passed_on}
-use Rattle.page_chain.proofs.Taking.{none_taken, out_more, taken_more, take_cause}
+use Rattle.page_chain.specs.lemmas.Links.{HandsOut, AreTaken}
+use Rattle.page_chain.proofs.Exits.{passed_on}
+use Rattle.page_chain.proofs.TakenPages.{none_taken, out_more, taken_more, take_cause}
 use Rattle.page_chain.proofs.write.take_pages.Goals as goal
 
 pub loop-init : goal.loop-init
 loop-init g c = none_taken _ _ c.new-pages.ensures.items
 
 pub returns-in_err-page-clause-out : goal.returns-in_err-page-clause-out
-returns-in_err-page-clause-out g c = subst (λ (s : Store). HandsOut (g.P.Pages.store c.args.store.now) s) (sym c.in_err-page.ensures.refused) c.loop.invariant.out
+returns-in_err-page-clause-out g c = subst (λ (s : Store). HandsOut (g.P.Pages.store c.args.store.now) s)
+    (sym c.in_err-page.ensures.refused) c.loop.invariant.out
 
 pub returns-in_err-page-clause-cause : goal.returns-in_err-page-clause-cause
 returns-in_err-page-clause-cause g c =
-    passed_on _ c.from_residual.result _ c.from_residual.ensures (take_cause _ c.loop.invariant (omega (arith, c.loop-test.true, c.requires)) c.in_err-page.ensures.cause)
+    passed_on _ c.from_residual.result _ c.from_residual.ensures
+    (take_cause _ c.loop.invariant (omega (arith, c.loop-test.true, c.requires)) c.in_err-page.ensures.cause)
 
 pub returns-in_err-add_page-clause-out : goal.returns-in_err-add_page-clause-out
 returns-in_err-add_page-clause-out g c =

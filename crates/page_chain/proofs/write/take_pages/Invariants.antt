@@ -1,4 +1,4 @@
-use Rattle.page_chain.proofs.Taking.{IsTaken}
+use Rattle.page_chain.proofs.TakenPages.{IsTaken}
 use Rattle.page_chain.proofs.write.take_pages.Given as goal
 
 abbrev pub invariant-loop : goal.invariant-loop

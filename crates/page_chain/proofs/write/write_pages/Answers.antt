@@ -4,10 +4,10 @@ use Rattle.std.proofs.lemmas.Option.{slice_get-get_or}
 use Rattle.std.specs.Prelude.{slice_index}
 use Rattle.page_store.specs.declared.marks.Mark.{Mark}
 use Rattle.page_store.specs.Marks.{mark}
-use Rattle.page_store.specs.aid.Works.{works_then}
-use Rattle.page_chain.proofs.Linking.{contains_got}
-use Rattle.page_chain.proofs.Passing.{passed_on}
-use Rattle.page_chain.proofs.Putting.{none_put, put_more, all_lead, all_hold, put_still, put_cause}
+use Rattle.page_store.specs.lemmas.Works.{works_then}
+use Rattle.page_chain.proofs.Links.{contains_got}
+use Rattle.page_chain.proofs.Exits.{passed_on}
+use Rattle.page_chain.proofs.WrittenPages.{none_put, put_more, all_lead, all_hold, put_still, put_cause}
 use Rattle.page_chain.proofs.write.write_pages.Goals as goal
 
 pub loop-place-init : goal.loop-place-init
@@ -20,7 +20,9 @@ page_with-bytes-requires g c =
 pub write_page-requires : goal.write_page-requires
 write_page-requires g c =
     let at = slice_index c.args.pages.now c.loop-place.place in
-    ap (λ (ms : List Mark). mark ms at) c.loop-place.invariant.marks ∙ c.requires.fresh at (contains_got c.args.pages.now c.loop-place.place at (slice_get-get_or c.args.pages.now c.loop-place.place 0 c.loop-place-test.true))
+    ap (λ (ms : List Mark). mark ms at) c.loop-place.invariant.marks
+    ∙ c.requires.fresh at (contains_got c.args.pages.now c.loop-place.place at
+    (slice_get-get_or c.args.pages.now c.loop-place.place 0 c.loop-place-test.true))
 
 pub returns-in_err-write_page-clause-marks : goal.returns-in_err-write_page-clause-marks
 returns-in_err-write_page-clause-marks g c = c.write_page.ensures.marks ∙ c.loop-place.invariant.marks
@@ -28,34 +30,34 @@ returns-in_err-write_page-clause-marks g c = c.write_page.ensures.marks ∙ c.lo
 pub returns-in_err-write_page-clause-works : goal.returns-in_err-write_page-clause-works
 returns-in_err-write_page-clause-works g c = works_then c.loop-place.invariant.works c.write_page.ensures.works
 
-pub returns-in_err-write_page-clause-still : goal.returns-in_err-write_page-clause-still
-returns-in_err-write_page-clause-still g c =
-    passed_on _ c.from_residual.result _ c.from_residual.ensures (put_still (g.P.Pages.store c.write_page.new.self) _ c.loop-place.invariant c.in_err-write_page.ensures.untouched)
-
-pub returns-in_err-write_page-clause-cause : goal.returns-in_err-write_page-clause-cause
-returns-in_err-write_page-clause-cause g c =
-    passed_on _ c.from_residual.result _ c.from_residual.ensures (put_cause (g.P.Pages.store c.write_page.new.self) _ c.loop-place.invariant c.in_err-write_page.ensures.cause)
-
 pub loop-place-preserved : goal.loop-place-preserved
 loop-place-preserved g c =
     let wrote = c.in_ok-write_page.ensures in
     let page = c.page_with-bytes.ensures in
-    put_more _ _ _ _ _ _ _ _ c.loop-place.invariant c.requires.once c.loop-place-test.true c.requires.no_more page.whole (page.next ∙ c.next_after.ensures) c.part_of.ensures page.holds wrote.written wrote.others wrote.marks wrote.open wrote.works
-
-pub returns-clause-leads : goal.returns-clause-leads
-returns-clause-leads g c = all_lead c.loop-place.place c.loop-place.invariant (omega (arith, c.loop-place-test.false, c.loop-place.auto.place-end))
-
-pub returns-clause-holds : goal.returns-clause-holds
-returns-clause-holds g c = all_hold c.loop-place.place c.loop-place.invariant (omega (arith, c.loop-place-test.false, c.loop-place.auto.place-end))
-
-pub returns-clause-open : goal.returns-clause-open
-returns-clause-open g c = λ some. c.loop-place.invariant.gone (omega (arith, some, c.loop-place-test.false))
-
-pub returns-clause-closed : goal.returns-clause-closed
-returns-clause-closed g c = c.loop-place.invariant.closed
+    put_more _ _ _ _ _ _ _ _ c.loop-place.invariant c.requires.once c.loop-place-test.true c.requires.no_more page.whole
+    (page.next ∙ c.next_after.ensures) c.part_of.ensures page.holds wrote.written wrote.others wrote.marks wrote.open wrote.works
 
 pub returns-clause-marks : goal.returns-clause-marks
 returns-clause-marks g c = c.loop-place.invariant.marks
 
 pub returns-clause-works : goal.returns-clause-works
 returns-clause-works g c = c.loop-place.invariant.works
+
+pub returns-in_err-write_page-clause-err : goal.returns-in_err-write_page-clause-err
+returns-in_err-write_page-clause-err g c =
+    let new = g.P.Pages.store c.write_page.new.self in
+    passed_on _ c.from_residual.result _ c.from_residual.ensures
+    (record {
+      still = put_still new _ c.loop-place.invariant c.in_err-write_page.ensures.untouched;
+      cause = put_cause new _ c.loop-place.invariant c.in_err-write_page.ensures.cause;
+    })
+
+pub returns-clause-ok : goal.returns-clause-ok
+returns-clause-ok g c =
+    let put = c.loop-place.invariant in
+    record {
+      leads = all_lead c.loop-place.place put (omega (arith, c.loop-place-test.false, c.loop-place.auto.place-end));
+      holds = all_hold c.loop-place.place put (omega (arith, c.loop-place-test.false, c.loop-place.auto.place-end));
+      «open» = λ some. put.gone (omega (arith, some, c.loop-place-test.false));
+      closed = put.closed;
+    }

@@ -1,4 +1,4 @@
-use Rattle.page_chain.proofs.Putting.{IsPut}
+use Rattle.page_chain.proofs.WrittenPages.{IsPut}
 use Rattle.page_chain.proofs.write.write_pages.Given as goal
 
 abbrev pub invariant-loop-place : goal.invariant-loop-place

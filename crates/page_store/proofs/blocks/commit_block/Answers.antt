@@ -1,5 +1,5 @@
 use Rattle.std.proofs.Common.{◌≡◌, ◌+◌, ◌*◌, arith}
-use Rattle.page_store.proofs.Turning.{committed_idle, part_none, part_then, part_idle, part_done, past_rests}
+use Rattle.page_store.proofs.TurnedMarks.{committed_idle, part_none, part_then, part_idle, part_done, past_rests}
 use Rattle.page_store.proofs.blocks.commit_block.Goals as goal
 
 pub loop-page-init : goal.loop-page-init
@@ -15,7 +15,8 @@ returns-then-not-noted c = part_idle _ _ _ _ (committed_idle c.args.holders.now)
 
 pub returns-then-start-pages : goal.returns-then-start-pages
 returns-then-start-pages c =
-    part_idle _ _ _ _ (committed_idle c.args.holders.now) (λ p low high. past_rests c.args.marks.now.items p (omega (arith, low, c.if-start-pages.true, c.len-pages.ensures)))
+    part_idle _ _ _ _ (committed_idle c.args.holders.now)
+    (λ p low high. past_rests c.args.marks.now.items p (omega (arith, low, c.if-start-pages.true, c.len-pages.ensures)))
 
 pub returns : goal.returns
 returns c =

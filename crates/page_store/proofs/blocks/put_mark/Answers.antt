@@ -1,5 +1,5 @@
-use Rattle.page_store.proofs.Marking.{marked}
-use Rattle.page_store.proofs.Turning.{put_noted}
+use Rattle.page_store.proofs.ChangedMarks.{marked}
+use Rattle.page_store.proofs.TurnedMarks.{put_noted}
 use Rattle.page_store.proofs.blocks.put_mark.Goals as goal
 
 pub returns-clause-marked : goal.returns-clause-marked

@@ -1,7 +1,7 @@
 use Rattle.std.proofs.Common.{◌≡◌, ◌<◌, ◌≤◌, ◌∙◌, false, length, sym, arith}
 use Rattle.std.proofs.lemmas.List.{get_or_default}
 use Rattle.page_store.specs.Blocks.{noted_at}
-use Rattle.page_store.proofs.Turning.{turned_idle, blocks_none, next_rests, blocks_more, blocks_all, blocks_noted}
+use Rattle.page_store.proofs.TurnedMarks.{turned_idle, blocks_none, next_rests, blocks_more, blocks_all, blocks_noted}
 use Rattle.page_store.proofs.blocks.turn.Goals as goal
 
 pub loop-block-init : goal.loop-block-init

@@ -1,5 +1,5 @@
 use Rattle.std.proofs.Common.{◌≡◌, ◌+◌, ◌*◌, arith}
-use Rattle.page_store.proofs.Turning.{turned_idle, part_none, part_then, part_idle, part_done, past_rests}
+use Rattle.page_store.proofs.TurnedMarks.{turned_idle, part_none, part_then, part_idle, part_done, past_rests}
 use Rattle.page_store.proofs.blocks.turn_block.Goals as goal
 
 pub loop-page-init : goal.loop-page-init
@@ -15,12 +15,14 @@ returns-then-not-noted c = part_idle _ _ _ _ (turned_idle c.args.fresh c.args.re
 
 pub returns-then-start-pages : goal.returns-then-start-pages
 returns-then-start-pages c =
-    part_idle _ _ _ _ (turned_idle c.args.fresh c.args.released c.args.waiting) (λ p low high. past_rests c.args.marks.now.items p (omega (arith, low, c.if-start-pages.true, c.len-pages.ensures)))
+    part_idle _ _ _ _ (turned_idle c.args.fresh c.args.released c.args.waiting)
+    (λ p low high. past_rests c.args.marks.now.items p (omega (arith, low, c.if-start-pages.true, c.len-pages.ensures)))
 
 pub returns : goal.returns
 returns c =
     let end : c.loop-page.page ≡ c.min-end.result = omega arith in
-    part_done _ (256 * c.args.block) (256 * c.args.block + 256) c.loop-page.page c.loop-page.goes_on _ _ (turned_idle c.args.fresh c.args.released c.args.waiting)
+    part_done _ (256 * c.args.block) (256 * c.args.block + 256) c.loop-page.page c.loop-page.goes_on _ _
+    (turned_idle c.args.fresh c.args.released c.args.waiting)
     (omega arith) (omega (arith, c.min-end.ensures)) (λ early. omega (arith, early, c.len-pages.ensures, c.min-end.ensures)) c.loop-page.invariant
 
 pub turn_page-here-requires : goal.turn_page-here-requires

@@ -1,4 +1,4 @@
-use Rattle.page_store.specs.aid.Carrying.{commit_carries}
+use Rattle.page_store.specs.lemmas.Carried.{commit_carries}
 use Rattle.page_store.proofs.laws.commit_carries.Goals as goal
 
 pub returns : goal.returns

@@ -1,4 +1,4 @@
-use Rattle.page_store.specs.aid.Carrying.{committed_calm}
+use Rattle.page_store.specs.lemmas.Carried.{committed_calm}
 use Rattle.page_store.proofs.laws.committed_calm.Goals as goal
 
 pub returns : goal.returns

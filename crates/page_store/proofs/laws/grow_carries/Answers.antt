@@ -1,4 +1,4 @@
-use Rattle.page_store.specs.aid.Carrying.{grow_carries}
+use Rattle.page_store.specs.lemmas.Carried.{grow_carries}
 use Rattle.page_store.proofs.laws.grow_carries.Goals as goal
 
 pub returns : goal.returns

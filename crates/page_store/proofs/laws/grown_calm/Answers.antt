@@ -1,4 +1,4 @@
-use Rattle.page_store.specs.aid.Carrying.{grown_calm}
+use Rattle.page_store.specs.lemmas.Carried.{grown_calm}
 use Rattle.page_store.proofs.laws.grown_calm.Goals as goal
 
 pub returns : goal.returns

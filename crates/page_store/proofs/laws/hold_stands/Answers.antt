@@ -1,4 +1,4 @@
-use Rattle.page_store.specs.aid.Carrying.{hold_stands}
+use Rattle.page_store.specs.lemmas.Carried.{hold_stands}
 use Rattle.page_store.proofs.laws.hold_stands.Goals as goal
 
 pub returns : goal.returns

@@ -1,4 +1,4 @@
-use Rattle.page_store.specs.aid.Carrying.{hold_stands_held}
+use Rattle.page_store.specs.lemmas.Carried.{hold_stands_held}
 use Rattle.page_store.proofs.laws.hold_stands_held.Goals as goal
 
 pub returns : goal.returns

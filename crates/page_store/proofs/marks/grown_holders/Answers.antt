@@ -3,7 +3,7 @@ use Rattle.std.proofs.lemmas.Bool.{cases_lt}
 use Rattle.std.proofs.lemmas.List.{get_or_past}
 use Rattle.page_store.specs.declared.holds.Holders.{Holders}
 use Rattle.page_store.specs.Holds.{none, holders_at}
-use Rattle.page_store.proofs.Growing.{holders_more}
+use Rattle.page_store.proofs.Growth.{holders_more}
 use Rattle.page_store.proofs.marks.grown_holders.Goals as goal
 
 pub loop-page-preserved : goal.loop-page-preserved
@@ -12,10 +12,11 @@ loop-page-preserved c =
     let items = c.in_ok-push.ensures.items in
     record {
       size = ap (λ (hs : List Holders). length hs) items ∙ length-append c.loop-page.grown.items (c.holders_of.result ∷ []) ∙ omega (arith, so_far.size);
-      each = λ p below. ap (λ (hs : List Holders). holders_at hs p) items ∙ elim (holders_more c.loop-page.grown.items c.holders_of.result c.loop-page.page p so_far.size below) [
-        | inl before ↦ before.1 ∙ so_far.each p before.0
-        | inr here ↦ here.1 ∙ c.holders_of.ensures ∙ ap (λ (k : ℕ). holders_at c.args.holders.now k) (sym here.0)
-      ];
+      each = λ p below. ap (λ (hs : List Holders). holders_at hs p) items
+          ∙ elim (holders_more c.loop-page.grown.items c.holders_of.result c.loop-page.page p so_far.size below) [
+            | inl before ↦ before.1 ∙ so_far.each p before.0
+            | inr here ↦ here.1 ∙ c.holders_of.ensures ∙ ap (λ (k : ℕ). holders_at c.args.holders.now k) (sym here.0)
+          ];
     }
 
 pub returns : goal.returns
@@ -27,6 +28,7 @@ returns c =
       long = long;
       each = λ p. elim (cases_lt p c.args.pages) [
         | inl low ↦ c.loop-page.invariant.each p (omega (arith, low, done))
-        | inr past ↦ get_or_past c.loop-page.grown.items p none (omega (arith, long, past)) ∙ sym (get_or_past c.args.holders.now p none (omega (arith, c.requires, past)))
+        | inr past ↦ get_or_past c.loop-page.grown.items p none (omega (arith, long, past))
+            ∙ sym (get_or_past c.args.holders.now p none (omega (arith, c.requires, past)))
       ];
     }

@@ -1,5 +1,5 @@
 use Rattle.std.proofs.Common.{arith}
-use Rattle.page_store.proofs.Marking.{none_free}
+use Rattle.page_store.proofs.ChangedMarks.{none_free}
 use Rattle.page_store.proofs.search.find_first.Goals as goal
 
 pub returns-clause-none : goal.returns-clause-none

@@ -20,7 +20,8 @@ record Cut (fields p values last : List ℕ) (v : ℕ) : Type 0 where
   pieces : length p ≡ v
   role : get_or last 1 0 ≡ get_or fields (length fields - 2) 0
 
-cut_of : (fields p rest values last : List ℕ) (v n : ℕ) → v + 3 ≤ length fields → p ≡ take v fields → rest ≡ drop v fields → n ≡ length rest - 3 → values ≡ take n rest → last ≡ drop n rest → Cut fields p values last v
+cut_of : (fields p rest values last : List ℕ) (v n : ℕ) → v + 3 ≤ length fields → p ≡ take v fields → rest ≡ drop v fields
+    → n ≡ length rest - 3 → values ≡ take n rest → last ≡ drop n rest → Cut fields p values last v
 cut_of fields p rest values last v n le ep er en ev el =
     let many : length rest ≡ length fields - v = ap length er ∙ length-drop v fields in
     let three : length last ≡ 3 = ap length el ∙ length-drop n rest ∙ omega (arith, many, en, le) in
@@ -28,7 +29,8 @@ cut_of fields p rest values last v n le ep er en ev el =
     record {
       whole = joined v n fields p values _ (sym ep) (ap (take n) (sym er) ∙ sym ev) (ap (drop n) (sym er) ∙ sym el ∙ three_of last three);
       pieces = ap length ep ∙ length-take-le v fields (omega (arith, le));
-      role = ap (λ xs. get_or xs 1 0) el ∙ get_or-drop n rest 1 0 ∙ ap (λ xs. get_or xs (n + 1) 0) er ∙ get_or-drop v fields (n + 1) 0 ∙ ap (λ i. get_or fields i 0) place;
+      role = ap (λ xs. get_or xs 1 0) el ∙ get_or-drop n rest 1 0 ∙ ap (λ xs. get_or xs (n + 1) 0) er ∙ get_or-drop v fields (n + 1) 0
+          ∙ ap (λ i. get_or fields i 0) place;
     }
 
 -- a number up to 2 is a role's

@@ -2,7 +2,7 @@ use Rattle.std.proofs.Common.{◌++◌, length, take, get_or, ap, sym, ◌∙◌
 use Rattle.std.proofs.lemmas.List.{length-append}
 use Rattle.std.proofs.lemmas.List.Sums.{sum_by_more_le}
 use Rattle.position_pack.specs.Bits.{width, bits_of, field_bits}
-use Rattle.position_pack.specs.aid.Streams.{written, IsWriter}
+use Rattle.position_pack.specs.lemmas.Streams.{written, IsWriter}
 use Rattle.position_pack.proofs.ReadLemmas.{field_more, field_none, length-field_bits}
 use Rattle.position_pack.proofs.fields.put_fields.Goals as goal
 use Rattle.position_pack.proofs.fields.put_fields.Goals.{then-index-fields, else-index-fields}
@@ -28,7 +28,8 @@ loop-index-preserved c =
             writer = subst IsWriter (sym w.writer-is) w.put.ensures.writer;
             bits = ap written w.writer-is ∙ w.put.ensures.bits ∙ ap (λ xs. xs ++ bits_of w.width_of.result (get_or fields k 0)) c.loop-index.invariant.bits
                 ∙ append_assoc old (field_bits (take k greatest) fields) (bits_of w.width_of.result (get_or fields k 0))
-                ∙ ap (λ n. old ++ (field_bits (take k greatest) fields ++ bits_of n (get_or fields k 0))) w.width_of.ensures.is ∙ ap (λ xs. old ++ xs) (sym more);
+                ∙ ap (λ n. old ++ (field_bits (take k greatest) fields ++ bits_of n (get_or fields k 0))) w.width_of.ensures.is
+                ∙ ap (λ xs. old ++ xs) (sym more);
           }
       | else-index-fields w ↦ record {
         writer = subst IsWriter (sym w.writer-is) c.loop-index.invariant.writer;

@@ -1,6 +1,6 @@
 use Rattle.std.proofs.Common.{◌≡◌, ◌++◌, take}
 use Rattle.position_pack.specs.Bits.{field_bits}
-use Rattle.position_pack.specs.aid.Streams.{written, IsWriter}
+use Rattle.position_pack.specs.lemmas.Streams.{written, IsWriter}
 use Rattle.position_pack.proofs.fields.put_fields.Given as goal
 
 abbrev pub invariant-loop-index : goal.invariant-loop-index

@@ -3,7 +3,7 @@ use Rattle.std.specs.List.{flat_map}
 use Rattle.std.proofs.lemmas.List.{length-append}
 use Rattle.std.proofs.lemmas.List.Folds.{length-flat_map-take}
 use Rattle.position_pack.specs.Bits.{bits_of}
-use Rattle.position_pack.specs.aid.Streams.{written}
+use Rattle.position_pack.specs.lemmas.Streams.{written}
 use Rattle.position_pack.proofs.BitLemmas.{length-bits}
 use Rattle.position_pack.proofs.PieceBits.{length-piece_bits}
 use Rattle.position_pack.proofs.fields.put_piece_bits.Goals as goal

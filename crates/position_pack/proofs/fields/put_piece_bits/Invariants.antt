@@ -1,7 +1,7 @@
 use Rattle.std.proofs.Common.{◌≡◌, ◌++◌, take}
 use Rattle.std.specs.List.{flat_map}
 use Rattle.position_pack.specs.Bits.{bits_of}
-use Rattle.position_pack.specs.aid.Streams.{written, IsWriter}
+use Rattle.position_pack.specs.lemmas.Streams.{written, IsWriter}
 use Rattle.position_pack.proofs.fields.put_piece_bits.Given as goal
 
 abbrev pub invariant-loop-piece : goal.invariant-loop-piece

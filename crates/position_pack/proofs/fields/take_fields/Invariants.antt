@@ -1,7 +1,7 @@
 use Rattle.std.proofs.Common.{◌≡◌, ◌++◌, ◌≤◌, ◌<◌, ◌+◌, ℕ, List, length, drop}
 use Rattle.std.specs.List.{sum_by}
 use Rattle.position_pack.specs.Bits.{width}
-use Rattle.position_pack.specs.aid.Streams.{left, IsReader}
+use Rattle.position_pack.specs.lemmas.Streams.{left, IsReader}
 use Rattle.position_pack.proofs.ByteLemmas.{all_bits}
 use Rattle.position_pack.proofs.ReadLemmas.{AreBehind}
 use Rattle.position_pack.proofs.fields.take_fields.Given as goal

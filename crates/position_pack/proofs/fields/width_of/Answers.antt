@@ -7,4 +7,5 @@ pub returns-then-most-eq0-clause-is : goal.returns-then-most-eq0-clause-is
 returns-then-most-eq0-clause-is c = sym (ap width c.if-most-eq0.true ∙ width_zero)
 
 pub returns-else-most-eq0-clause-is : goal.returns-else-most-eq0-clause-is
-returns-else-most-eq0-clause-is c = width_between c.args.most c.ilog2.result c.ilog2.ensures.power_le c.ilog2.ensures.next_power_gt (omega (arith, c.ranges.most.fits))
+returns-else-most-eq0-clause-is c = width_between c.args.most c.ilog2.result c.ilog2.ensures.power_le c.ilog2.ensures.next_power_gt
+    (omega (arith, c.ranges.most.fits))

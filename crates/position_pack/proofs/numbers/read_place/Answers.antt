@@ -10,4 +10,10 @@ pub overflow_cast-action_count : goal.overflow_cast-action_count
 overflow_cast-action_count c = omega (arith, count_within (regex_of c.args.game.now.rules), c.requires.few_actions, c.action_count.ensures)
 
 pub overflow_cast-result : goal.overflow_cast-result
-overflow_cast-result c = omega (arith, count_within (regex_of c.args.game.now.rules), c.requires.few_actions, c.action_count.ensures, c.in_ok-place.ensures.allowed)
+overflow_cast-result c = omega (
+  arith,
+  count_within (regex_of c.args.game.now.rules),
+  c.requires.few_actions,
+  c.action_count.ensures,
+  c.in_ok-place.ensures.allowed,
+)

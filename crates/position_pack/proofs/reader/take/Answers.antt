@@ -7,12 +7,14 @@ use Rattle.position_pack.proofs.reader.take.Goals as goal
 
 pub bounds-bytes-next : goal.bounds-bytes-next
 bounds-bytes-next c =
-    let all = sym (length-left c.args.bytes.now c.loop-count.next c.loop-count.count c.loop-count.held c.loop-count.invariant.within) ∙ ap length c.loop-count.invariant.bits in
+    let all = sym (length-left c.args.bytes.now c.loop-count.next c.loop-count.count c.loop-count.held c.loop-count.invariant.within)
+    ∙ ap length c.loop-count.invariant.bits in
     omega (arith, all, c.requires.enough, c.loop-count-test.true, c.loop-count.invariant.within)
 
 pub loop-count-preserved : goal.loop-count-preserved
 loop-count-preserved c =
-    let all = sym (length-left c.args.bytes.now c.loop-count.next c.loop-count.count c.loop-count.held c.loop-count.invariant.within) ∙ ap length c.loop-count.invariant.bits in
+    let all = sym (length-left c.args.bytes.now c.loop-count.next c.loop-count.count c.loop-count.held c.loop-count.invariant.within)
+    ∙ ap length c.loop-count.invariant.bits in
     let there : c.loop-count.next < length c.args.bytes.now = omega (arith, all, c.requires.enough, c.loop-count-test.true, c.loop-count.invariant.within) in
     let byte : c.from.result < 256 = omega (arith, c.from.ensures, c.type_inv.bytes c.loop-count.next) in
     record {
@@ -32,7 +34,8 @@ pub overflow_cast-value-2 : goal.overflow_cast-value-2
 overflow_cast-value-2 c =
     let k = c.loop-count.count - c.args.width in
     let many : c.loop-count.count ≡ c.args.width + k = omega (arith, c.loop-count-test.false) in
-    let small : c.loop-count.held / 2 ^ k < 2 ^ c.args.width = high_bits c.loop-count.held c.args.width k (subst (λ n. c.loop-count.held < 2 ^ n) many c.loop-count.invariant.low) in
+    let small : c.loop-count.held / 2 ^ k < 2 ^ c.args.width = high_bits c.loop-count.held c.args.width k
+    (subst (λ n. c.loop-count.held < 2 ^ n) many c.loop-count.invariant.low) in
     let most : 2 ^ c.args.width ≤ 2 ^ 32 = pow_mono {i = c.args.width} {j = 32} c.requires.width in
     omega (arith, small, most)
 

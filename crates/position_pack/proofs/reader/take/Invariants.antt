@@ -1,6 +1,6 @@
 use Rattle.std.proofs.Common.{◌≡◌, ◌^◌, ◌≤◌, ◌<◌, ◌++◌, ◌+◌, ◌-◌, length, drop}
 use Rattle.position_pack.specs.Bits.{bits_of}
-use Rattle.position_pack.specs.aid.Streams.{left}
+use Rattle.position_pack.specs.lemmas.Streams.{left}
 use Rattle.position_pack.proofs.ByteLemmas.{all_bits}
 use Rattle.position_pack.proofs.reader.take.Given as goal
 

@@ -1,7 +1,7 @@
 use Rattle.std.proofs.Common.{◌≡◌, ℕ, ◌+◌, ◌*◌, ◌%◌, ◌^◌, ◌<◌, ◌≤◌, ◌++◌, length, ap, ◌∙◌, sym, subst, arith}
 use Rattle.std.proofs.lemmas.List.{length-append}
 use Rattle.position_pack.specs.Bits.{bits_of}
-use Rattle.position_pack.specs.aid.Streams.{written, HoldsFewer, IsWriter}
+use Rattle.position_pack.specs.lemmas.Streams.{written, HoldsFewer, IsWriter}
 use Rattle.position_pack.specs.declared.writer.Writer.{Writer}
 use Rattle.position_pack.proofs.BitLemmas.{length-bits}
 use Rattle.position_pack.proofs.ShiftLemmas.{high_low, shifted, one_shifted, below_power, put_behind}
@@ -15,12 +15,14 @@ record Held (W : Writer) (w value n : ℕ) : Type 0 where
   holds : HoldsFewer 64 (holding W w n)
   bits : written (holding W w n) ≡ written W ++ bits_of w value
 
-held : (W : Writer) (w value x : ℕ) → x ≡ value → IsWriter W → w ≤ 32 → Held W w value (W.held * 2 ^ w % 18446744073709551616 + x % (1 * 2 ^ w % 18446744073709551616))
+held : (W : Writer) (w value x : ℕ) → x ≡ value → IsWriter W → w ≤ 32
+    → Held W w value (W.held * 2 ^ w % 18446744073709551616 + x % (1 * 2 ^ w % 18446744073709551616))
 held W w value x same writer few =
     let one : 1 * 2 ^ w % 18446744073709551616 ≡ 2 ^ w = one_shifted w (omega (arith, few)) in
     let low : x % 2 ^ w < 2 ^ w = below_power x w in
     let number : W.held * 2 ^ w % 18446744073709551616 + x % (1 * 2 ^ w % 18446744073709551616) ≡ W.held * 2 ^ w + x % 2 ^ w =
-    ap (λ n. n + x % (1 * 2 ^ w % 18446744073709551616)) (shifted W.held W.count w writer.low (omega (arith, few, writer.few))) ∙ ap (λ n. W.held * 2 ^ w + x % n) one in
+    ap (λ n. n + x % (1 * 2 ^ w % 18446744073709551616)) (shifted W.held W.count w writer.low (omega (arith, few, writer.few)))
+    ∙ ap (λ n. W.held * 2 ^ w + x % n) one in
     record {
       holds = record {
         few = omega (arith, few, writer.few);
@@ -41,7 +43,8 @@ put_held-requires-clause-room c =
     omega (arith, bits, more, value, c.requires.room)
 
 pub returns-then-writer-ge32-clause-bits : goal.returns-then-writer-ge32-clause-bits
-returns-then-writer-ge32-clause-bits c = c.put_held.ensures.bits ∙ (held c.args.writer.now c.args.width c.args.value c.from.result c.from.ensures c.requires.writer c.requires.width).bits
+returns-then-writer-ge32-clause-bits c = c.put_held.ensures.bits
+    ∙ (held c.args.writer.now c.args.width c.args.value c.from.result c.from.ensures c.requires.writer c.requires.width).bits
 
 pub returns-else-writer-ge32-clause-writer : goal.returns-else-writer-ge32-clause-writer
 returns-else-writer-ge32-clause-writer c =

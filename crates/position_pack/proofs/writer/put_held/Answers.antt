@@ -36,7 +36,8 @@ loop-count-preserved c =
     record {
       wide = omega (arith, c.loop-count.invariant.wide);
       low = subst (λ n. n < 2 ^ d) number (below_power held d);
-      bytes = subst (λ xs. (i : ℕ) → get_or xs i 0 < 256) (sym c.push.ensures.items) (low_push c.loop-count.writer.bytes.items (held / 2 ^ d) c.loop-count.invariant.bytes small);
+      bytes = subst (λ xs. (i : ℕ) → get_or xs i 0 < 256) (sym c.push.ensures.items)
+          (low_push c.loop-count.writer.bytes.items (held / 2 ^ d) c.loop-count.invariant.bytes small);
       bits = ap (λ n. all_bits c.push.new.self.items ++ bits_of d n) (sym number)
           ∙ byte_out c.loop-count.writer.bytes.items c.push.new.self.items c.loop-count.count d held _ many c.push.ensures.items c.loop-count.invariant.bits;
     }

@@ -1,6 +1,6 @@
 use Rattle.std.proofs.Common.{◌≡◌, ℕ, get_or, ◌^◌, ◌≤◌, ◌<◌, ◌++◌, ◌+◌, ◌-◌}
 use Rattle.position_pack.specs.Bits.{bits_of}
-use Rattle.position_pack.specs.aid.Streams.{written}
+use Rattle.position_pack.specs.lemmas.Streams.{written}
 use Rattle.position_pack.proofs.ByteLemmas.{all_bits}
 use Rattle.position_pack.proofs.writer.put_held.Given as goal
 

@@ -10,7 +10,8 @@ overflow_cast-writer-then-writer-gt0 c =
     let k = 8 - c.args.writer.now.count in
     let many : c.args.writer.now.count + k ≡ 8 = omega (arith, c.requires.writer.few) in
     let number : held * 2 ^ k % 18446744073709551616 ≡ held * 2 ^ k = shifted held c.args.writer.now.count k c.requires.writer.low (omega (arith, many)) in
-    let small : held * 2 ^ k + 0 < 2 ^ 8 = subst (λ n. held * 2 ^ k + 0 < 2 ^ n) many (high_low held 0 c.args.writer.now.count k c.requires.writer.low (power_positive k)) in
+    let small : held * 2 ^ k + 0 < 2 ^ 8 = subst (λ n. held * 2 ^ k + 0 < 2 ^ n) many
+    (high_low held 0 c.args.writer.now.count k c.requires.writer.low (power_positive k)) in
     omega (arith, number, small)
 
 pub push-requires : goal.push-requires
@@ -28,8 +29,10 @@ returns-then-writer-gt0 c =
     let number : held * 2 ^ k % 18446744073709551616 ≡ held * 2 ^ k = shifted held count k c.requires.writer.low (omega (arith, many)) in
     let small : held * 2 ^ k + 0 < 2 ^ 8 = subst (λ n. held * 2 ^ k + 0 < 2 ^ n) many (high_low held 0 count k c.requires.writer.low (power_positive k)) in
     let low : (i : ℕ) → get_or c.push.new.self.items i 0 < 256 =
-    subst (λ xs. (i : ℕ) → get_or xs i 0 < 256) (sym c.push.ensures.items) (low_push c.args.writer.now.bytes.items _ c.requires.writer.bytes (omega (arith, number, small))) in
-    last_out c.args.writer.now.bytes.items c.push.new.self.items count k held _ many (omega (arith, c.if-writer-gt0.true)) number c.push.ensures.items (low_bytes c.push.new.self.items low)
+    subst (λ xs. (i : ℕ) → get_or xs i 0 < 256) (sym c.push.ensures.items)
+    (low_push c.args.writer.now.bytes.items _ c.requires.writer.bytes (omega (arith, number, small))) in
+    last_out c.args.writer.now.bytes.items c.push.new.self.items count k held _ many
+    (omega (arith, c.if-writer-gt0.true)) number c.push.ensures.items (low_bytes c.push.new.self.items low)
 
 pub returns-else-writer-gt0 : goal.returns-else-writer-gt0
 returns-else-writer-gt0 c =

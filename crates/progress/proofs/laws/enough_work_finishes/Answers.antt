@@ -1,4 +1,4 @@
-use Rattle.progress.proofs.Working.{enough_work_finishes}
+use Rattle.progress.proofs.Work.{enough_work_finishes}
 use Rattle.progress.proofs.laws.enough_work_finishes.Goals as goal
 
 pub returns : goal.returns

@@ -1,4 +1,4 @@
-use Rattle.progress.proofs.Working.{it_gets_there}
+use Rattle.progress.proofs.Work.{it_gets_there}
 use Rattle.progress.proofs.laws.it_gets_there.Goals as goal
 
 pub returns : goal.returns

@@ -1,7 +1,7 @@
 use Rattle.std.specs.Prelude.{◌*◌, ◌≤◌}
 use Rattle.std.proofs.Common.{sym, subst}
 use Rattle.progress.specs.Enough.{units_told}
-use Rattle.progress.proofs.Working.{it_gets_there}
+use Rattle.progress.proofs.Work.{it_gets_there}
 use Rattle.progress.proofs.laws.what_lines_told_gets_there.Goals as goal
 
 pub returns : goal.returns

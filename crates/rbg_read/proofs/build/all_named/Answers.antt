@@ -1,6 +1,6 @@
 use Rattle.std.proofs.Common.{[], map, ap}
 use Rattle.rbg_read.proofs.Lists.{map_turn, end_behind}
-use Rattle.rbg_read.proofs.Passing.{none_answered}
+use Rattle.rbg_read.proofs.Exits.{none_answered}
 use Rattle.rbg_read.proofs.build.all_named.Goals as goal
 
 pub loop-word-init : goal.loop-word-init
@@ -14,7 +14,9 @@ returns-in_err-push c = none_answered _ c.from_residual-in_err-push.result c.fro
 
 pub loop-word-preserved : goal.loop-word-preserved
 loop-word-preserved c =
-    map_turn (λ n. n.bytes.items) (λ w. w.now) c.loop-word.names.items c.push.new.self.items c.in_ok-named.field-0 c.args.words.now c.loop-word.word-index (record { ref_ptr = (0, 0); now = [] })
+    map_turn (λ n. n.bytes.items) (λ w.
+    w.now) c.loop-word.names.items c.push.new.self.items c.in_ok-named.field-0 c.args.words.now c.loop-word.word-index
+    (record { ref_ptr = (0, 0); now = [] })
     c.loop-word-test.true c.in_ok-push.ensures.items c.in_ok-named.ensures c.loop-word.invariant
 
 pub returns : goal.returns

@@ -3,10 +3,10 @@ use Rattle.rbg_text.specs.Said.{arrow_view}
 use Rattle.rbg_text.specs.declared.sections.Arrow.{Arrow as SaidArrow}
 use Rattle.rbg_game.specs.Meaning.{arrow_of}
 use Rattle.rbg_game.specs.declared.game.Arrow.{Arrow}
-use Rattle.rbg_read.specs.aid.Parts.{known_view}
-use Rattle.rbg_read.specs.aid.Build.{placed_arrow}
+use Rattle.rbg_read.specs.lemmas.Parts.{known_view}
+use Rattle.rbg_read.specs.lemmas.Build.{placed_arrow}
 use Rattle.rbg_read.proofs.Lists.{map_turn, end_behind}
-use Rattle.rbg_read.proofs.Passing.{none_answered}
+use Rattle.rbg_read.proofs.Exits.{none_answered}
 use Rattle.rbg_read.proofs.build.arrows_of.Goals as goal
 
 -- what a goal has past the end of the arrows
@@ -19,7 +19,8 @@ loop-arrow-preserved c =
     let new : Arrow = record { label = c.label_place-label.result; to = c.vertex_place-to.result } in
     let same : arrow_of new ≡ placed_arrow names (arrow_view (get_or c.args.arrows.now c.loop-arrow.arrow-index no_arrow)) =
     λ i. record { label = c.label_place-label.ensures i; to = c.vertex_place-to.ensures i } in
-    map_turn arrow_of (λ a. placed_arrow names (arrow_view a)) c.loop-arrow.placed.items c.push.new.self.items new c.args.arrows.now c.loop-arrow.arrow-index no_arrow
+    map_turn arrow_of (λ a. placed_arrow names
+    (arrow_view a)) c.loop-arrow.placed.items c.push.new.self.items new c.args.arrows.now c.loop-arrow.arrow-index no_arrow
     c.loop-arrow-test.true c.in_ok-push.ensures.items same c.loop-arrow.invariant
 
 pub loop-arrow-init : goal.loop-arrow-init
@@ -30,4 +31,5 @@ returns-in_err-push c = none_answered _ c.from_residual.result c.from_residual.e
 
 pub returns : goal.returns
 returns c =
-    end_behind (λ a. placed_arrow (known_view c.args.names.now) (arrow_view a)) [] c.args.arrows.now c.loop-arrow.arrow-index c.loop-arrow-test.false c.loop-arrow.invariant
+    end_behind (λ a. placed_arrow (known_view c.args.names.now)
+    (arrow_view a)) [] c.args.arrows.now c.loop-arrow.arrow-index c.loop-arrow-test.false c.loop-arrow.invariant

@@ -1,13 +1,13 @@
 use Rattle.std.proofs.Common.{◌≡◌, ◌==◌, ℕ, false, true, not, length, map, refl, ap, sym, ◌∙◌}
 use Rattle.std.specs.List.{list_any}
 use Rattle.rbg_text.specs.View.{step_view}
-use Rattle.rbg_read.specs.aid.Flat.{uses_unknown, repeats_name, has_large, is_past_a_limit, bounds, is_large_number}
-use Rattle.rbg_read.specs.aid.Sizes.{has_large_size}
-use Rattle.rbg_read.specs.aid.Switches.{has_inner_switch}
-use Rattle.rbg_read.specs.aid.Parts.{known_view, parts_view}
+use Rattle.rbg_read.specs.lemmas.Flat.{uses_unknown, repeats_name, has_large, is_past_a_limit, bounds, is_large_number}
+use Rattle.rbg_read.specs.lemmas.Sizes.{has_large_size}
+use Rattle.rbg_read.specs.lemmas.Switches.{has_inner_switch}
+use Rattle.rbg_read.specs.lemmas.Parts.{known_view, parts_view}
 use Rattle.rbg_read.proofs.FirstCause.{here, past, two_at, two_players}
 use Rattle.rbg_read.proofs.NoCause.{few, no_large}
-use Rattle.rbg_read.proofs.Passing.{memory_ended}
+use Rattle.rbg_read.proofs.Exits.{memory_ended}
 use Rattle.rbg_read.proofs.checks.check.Goals as goal
 
 pub returns-then-uses_unknown : goal.returns-then-uses_unknown

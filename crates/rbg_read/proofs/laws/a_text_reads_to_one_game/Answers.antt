@@ -1,4 +1,4 @@
-use Rattle.rbg_read.proofs.OneReading.{one_game}
+use Rattle.rbg_read.proofs.OneGame.{one_game}
 use Rattle.rbg_read.proofs.laws.a_text_reads_to_one_game.Goals as goal
 
 pub returns : goal.returns

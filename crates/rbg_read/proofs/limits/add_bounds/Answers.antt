@@ -3,7 +3,7 @@ use Rattle.std.proofs.lemmas.Bool.{ltb-false}
 use Rattle.rbg_text.specs.declared.sections.Declaration.{Declaration}
 use Rattle.rbg_text.specs.Said.{declaration_view}
 use Rattle.rbg_read.specs.Means.{decimal}
-use Rattle.rbg_read.specs.aid.Flat.{has_large_bound}
+use Rattle.rbg_read.specs.lemmas.Flat.{has_large_bound}
 use Rattle.rbg_read.proofs.Lists.{plain_behind, end_behind, none_here}
 use Rattle.rbg_read.proofs.limits.add_bounds.Goals as goal
 
@@ -14,7 +14,8 @@ no_declaration = record { name = record { ref_ptr = (0, 0); now = [] }; bound = 
 pub loop-declaration-preserved : goal.loop-declaration-preserved
 loop-declaration-preserved c =
     let small = ltb-false _ _ (none_here (λ d. has_large_bound (declaration_view d)) c.args.declarations.now c.loop-declaration.declaration-index no_declaration c.loop-declaration-test.true c.requires) in
-    let same : c.number.result ≡ decimal (get_or c.args.declarations.now c.loop-declaration.declaration-index no_declaration).bound.now = omega (arith, small, c.number.ensures) in
+    let same : c.number.result ≡ decimal (get_or c.args.declarations.now c.loop-declaration.declaration-index no_declaration).bound.now =
+    omega (arith, small, c.number.ensures) in
     plain_behind (λ d. decimal d.bound.now) _ _ _ _ c.args.declarations.now c.loop-declaration.declaration-index no_declaration c.loop-declaration-test.true
     c.in_ok-push.ensures.items same c.loop-declaration.invariant
 

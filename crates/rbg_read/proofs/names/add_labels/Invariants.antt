@@ -1,5 +1,5 @@
 use Rattle.std.proofs.Common.{◌≡◌, take, map, fold}
-use Rattle.rbg_read.specs.aid.Parts.{with_label}
+use Rattle.rbg_read.specs.lemmas.Parts.{with_label}
 use Rattle.rbg_read.proofs.names.add_labels.Given as goal
 
 abbrev pub invariant-loop-arrow : goal.invariant-loop-arrow

@@ -1,7 +1,7 @@
 use Rattle.std.proofs.Common.{[], sym, ap, ◌∙◌, fold, take, length, ◌≤◌}
 use Rattle.std.proofs.lemmas.List.{take_all}
 use Rattle.std.specs.List.{flat_map}
-use Rattle.rbg_read.specs.aid.Parts.{with_label}
+use Rattle.rbg_read.specs.lemmas.Parts.{with_label}
 use Rattle.rbg_read.proofs.Labels.{labels_said}
 use Rattle.rbg_read.proofs.names.labels_of.Goals as goal
 

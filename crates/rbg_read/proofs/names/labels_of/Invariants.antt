@@ -1,6 +1,6 @@
 use Rattle.std.proofs.Common.{◌≡◌, [], take, map, fold}
 use Rattle.std.specs.List.{flat_map}
-use Rattle.rbg_read.specs.aid.Parts.{with_label}
+use Rattle.rbg_read.specs.lemmas.Parts.{with_label}
 use Rattle.rbg_read.proofs.names.labels_of.Given as goal
 
 abbrev pub invariant-loop-vertex : goal.invariant-loop-vertex

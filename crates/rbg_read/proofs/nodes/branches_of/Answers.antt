@@ -1,7 +1,7 @@
 use Rattle.std.proofs.Common.{sym, ap, ◌∙◌}
 use Rattle.rbg_game.specs.Meaning.{regex_of}
 use Rattle.rbg_game.proofs.MeaningLemmas.{regex_of-Sum}
-use Rattle.rbg_read.proofs.Passing.{none_answered}
+use Rattle.rbg_read.proofs.Exits.{none_answered}
 use Rattle.rbg_read.proofs.nodes.branches_of.Goals as goal
 
 pub returns-in_err-vec-in-Sum-clause-some : goal.returns-in_err-vec-in-Sum-clause-some

@@ -1,7 +1,7 @@
 use Rattle.std.proofs.Common.{sym, ap, ◌∙◌}
 use Rattle.rbg_game.specs.Meaning.{expression_of}
 use Rattle.rbg_game.proofs.MeaningLemmas.{expression_of-Product}
-use Rattle.rbg_read.proofs.Passing.{none_answered}
+use Rattle.rbg_read.proofs.Exits.{none_answered}
 use Rattle.rbg_read.proofs.nodes.factors_of.Goals as goal
 
 pub returns-in_err-vec-in-Product-clause-some : goal.returns-in_err-vec-in-Product-clause-some

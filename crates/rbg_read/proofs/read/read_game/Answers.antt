@@ -4,13 +4,13 @@ use Rattle.rbg_text.specs.Said.{section_view}
 use Rattle.rbg_text.specs.NestingCount.{nesting}
 use Rattle.std.specs.Prelude.{option_map}
 use Rattle.rbg_game.specs.Meaning.{game_of}
-use Rattle.rbg_read.specs.aid.Parts.{parts_view, known_view}
-use Rattle.rbg_read.specs.Reading.{too_long, stray_byte, nested, grammar}
+use Rattle.rbg_read.specs.lemmas.Parts.{parts_view, known_view}
+use Rattle.rbg_read.specs.Reads.{too_long, stray_byte, nested, grammar}
 use Rattle.rbg_read.proofs.Outcome.{passed_on, kept_on, lacks, refused, read}
 use Rattle.rbg_read.proofs.SoundGames.{read_sound}
 use Rattle.rbg_read.proofs.ShallowRules.{read_shallow}
-use Rattle.rbg_read.proofs.Passing.{none_answered, memory_fault, of_fault}
-use Rattle.rbg_read.proofs.OneReading.{no_fault, refused_only}
+use Rattle.rbg_read.proofs.Exits.{none_answered, memory_fault, of_fault}
+use Rattle.rbg_read.proofs.OneGame.{no_fault, refused_only}
 use Rattle.rbg_read.proofs.read.read_game.Goals as goal
 
 pub returns-then-text-gt-MAX_TEXT_BYTES-clause-fault : goal.returns-then-text-gt-MAX_TEXT_BYTES-clause-fault
@@ -23,7 +23,8 @@ returns-in_err-tokens-clause-fault c =
 
 pub returns-then-nesting-gt-MAX_NESTING-clause-fault : goal.returns-then-nesting-gt-MAX_NESTING-clause-fault
 returns-then-nesting-gt-MAX_NESTING-clause-fault c = λ _.
-    let deep : c.nesting.result ≡ nesting (map token_view c.in_ok-tokens.tokens.items) = c.nesting.ensures ∙ ap (λ ts. nesting (map token_view ts)) c.as_slice.ensures.value in
+    let deep : c.nesting.result ≡ nesting (map token_view c.in_ok-tokens.tokens.items) = c.nesting.ensures
+    ∙ ap (λ ts. nesting (map token_view ts)) c.as_slice.ensures.value in
     nested c.if-text-gt-MAX_TEXT_BYTES.false c.in_ok-tokens.ensures.split (omega arith)
 
 pub returns-in_err-sections-clause-fault : goal.returns-in_err-sections-clause-fault
@@ -75,10 +76,12 @@ returns-clause-reads c =
     (sym c.in_ok-parts.ensures ∙ ap (option_map parts_view) c.in-Some.is) c.in_ok-names.ensures c.in_ok-check.ensures c.in_ok-build.ensures.means
 
 pub returns-then-text-gt-MAX_TEXT_BYTES-clause-only : goal.returns-then-text-gt-MAX_TEXT_BYTES-clause-only
-returns-then-text-gt-MAX_TEXT_BYTES-clause-only c = λ game is. absurd (no_fault c.args.text.now game _ is (returns-then-text-gt-MAX_TEXT_BYTES-clause-fault c (λ e. absurd (cc))))
+returns-then-text-gt-MAX_TEXT_BYTES-clause-only c = λ game is. absurd
+    (no_fault c.args.text.now game _ is (returns-then-text-gt-MAX_TEXT_BYTES-clause-fault c (λ e. absurd (cc))))
 
 pub returns-then-nesting-gt-MAX_NESTING-clause-only : goal.returns-then-nesting-gt-MAX_NESTING-clause-only
-returns-then-nesting-gt-MAX_NESTING-clause-only c = λ game is. absurd (no_fault c.args.text.now game _ is (returns-then-nesting-gt-MAX_NESTING-clause-fault c (λ e. absurd (cc))))
+returns-then-nesting-gt-MAX_NESTING-clause-only c = λ game is. absurd
+    (no_fault c.args.text.now game _ is (returns-then-nesting-gt-MAX_NESTING-clause-fault c (λ e. absurd (cc))))
 
 pub returns-in_default-clause-only : goal.returns-in_default-clause-only
 returns-in_default-clause-only c = λ game is. absurd (no_fault c.args.text.now game _ is (returns-in_default-clause-fault c (λ e. absurd (cc))))
@@ -87,7 +90,8 @@ pub returns-in_err-tokens-clause-only : goal.returns-in_err-tokens-clause-only
 returns-in_err-tokens-clause-only c = λ game is. refused_only c.args.text.now c.from_residual.result (returns-in_err-tokens-clause-fault c) game is
 
 pub returns-in_err-sections-clause-only : goal.returns-in_err-sections-clause-only
-returns-in_err-sections-clause-only c = λ game is. refused_only c.args.text.now c.from_residual-in_err-sections.result (returns-in_err-sections-clause-fault c) game is
+returns-in_err-sections-clause-only c = λ game is. refused_only c.args.text.now c.from_residual-in_err-sections.result
+    (returns-in_err-sections-clause-fault c) game is
 
 pub returns-in_err-check-clause-only : goal.returns-in_err-check-clause-only
 returns-in_err-check-clause-only c = λ game is. refused_only c.args.text.now c.from_residual-in_err-check.result (returns-in_err-check-clause-fault c) game is

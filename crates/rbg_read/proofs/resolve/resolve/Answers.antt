@@ -1,8 +1,8 @@
 use Rattle.std.proofs.Common.{get_or, sym, ap, ◌∙◌, arith}
 use Rattle.rbg_text.specs.View.{step_view}
-use Rattle.rbg_read.specs.aid.Flat.{is_large_number}
-use Rattle.rbg_read.specs.aid.Parts.{known_view}
-use Rattle.rbg_read.specs.aid.Resolve.{finished, first_rules, after_step, empty_stack, resolved}
+use Rattle.rbg_read.specs.lemmas.Flat.{is_large_number}
+use Rattle.rbg_read.specs.lemmas.Parts.{known_view}
+use Rattle.rbg_read.specs.lemmas.Resolve.{finished, first_rules, after_step, empty_stack, resolved}
 use Rattle.rbg_read.proofs.Defaults.{no_step}
 use Rattle.rbg_read.proofs.FlatNodes.{rules_whole}
 use Rattle.rbg_read.proofs.Lists.{fold_turn, fold_end, none_at}

@@ -1,7 +1,7 @@
 use Rattle.std.proofs.Common.{◌≡◌, take, map, fold}
 use Rattle.rbg_text.specs.View.{step_view}
-use Rattle.rbg_read.specs.aid.Parts.{known_view}
-use Rattle.rbg_read.specs.aid.Resolve.{after_step, empty_stack, stack_of}
+use Rattle.rbg_read.specs.lemmas.Parts.{known_view}
+use Rattle.rbg_read.specs.lemmas.Resolve.{after_step, empty_stack, stack_of}
 use Rattle.rbg_read.proofs.resolve.resolve.Given as goal
 
 abbrev pub invariant-loop-step : goal.invariant-loop-step

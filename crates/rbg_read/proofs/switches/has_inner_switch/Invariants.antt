@@ -1,6 +1,6 @@
 use Rattle.std.proofs.Common.{◌≡◌, [], take, map, fold, reverse, Some}
 use Rattle.rbg_text.specs.View.{step_view}
-use Rattle.rbg_read.specs.aid.Switches.{next_flags}
+use Rattle.rbg_read.specs.lemmas.Switches.{next_flags}
 use Rattle.rbg_read.proofs.switches.has_inner_switch.Given as goal
 
 abbrev pub invariant-loop-step : goal.invariant-loop-step

@@ -1,4 +1,4 @@
-use Rattle.rbg_text.proofs.Splitting.{whole_split, whole_stray}
+use Rattle.rbg_text.proofs.Splits.{whole_split, whole_stray}
 use Rattle.rbg_text.proofs.lexer.tokens.Goals as goal
 
 pub returns-in_err-token-clause-stray : goal.returns-in_err-token-clause-stray

@@ -1,7 +1,7 @@
 use Rattle.std.proofs.Common.{◌≡◌, length, map}
 use Rattle.rbg_text.specs.Lex.{lex}
 use Rattle.rbg_text.specs.View.{token_view}
-use Rattle.rbg_text.specs.aid.View.{with_front}
+use Rattle.rbg_text.specs.lemmas.View.{with_front}
 use Rattle.rbg_text.proofs.lexer.tokens.Given as goal
 
 abbrev pub invariant-loop-found : goal.invariant-loop-found

@@ -1,10 +1,10 @@
 use Rattle.std.proofs.Common.{ℕ, sym, ◌∙◌, subst}
 use Rattle.sector_disk.specs.Disk.{Disk}
 use Rattle.solver.specs.Solvers.{state}
-use Rattle.recover.specs.Migrating.{EitherLayout, IsCurrent}
-use Rattle.recover.proofs.Migrating.{is_current, not_synced, still_there}
-use Rattle.recover.proofs.Reading.{on_ok, read_first, read_on}
-use Rattle.recover.proofs.Refusing.{none_by, today_unopened}
+use Rattle.recover.specs.Migrations.{EitherLayout, IsCurrent}
+use Rattle.recover.proofs.Migrations.{is_current, not_synced, still_there}
+use Rattle.recover.proofs.SyncedReads.{on_ok, read_first, read_on}
+use Rattle.recover.proofs.Refusals.{none_by, today_unopened}
 use Rattle.recover.proofs.migration.migrate.Goals as goal
 
 pub returns-in-Ok-clause-current : goal.returns-in-Ok-clause-current
@@ -15,7 +15,7 @@ returns-in-Ok-clause-current g c = λ is.
     (λ honest. on_ok c.sync.result synced (c.sync.ensures.all honest)) in
     let Earlier = EitherLayout g.First.EarlierFile.stores g.Second.EarlierFile.stores in
     let was = state c.in-Ok.solver in
-    let it = is_current Earlier g.Today.GameFile.stores _ _ _ _ was read c.in-Ok.ensures.opened in
+    let it = is_current Earlier g.Today.GameFile.stores _ _ _ _ was read c.in-Ok.ensures.ok.opened in
     subst (λ (d : Disk). IsCurrent Earlier g.Today.GameFile.stores (g.D.SectorDisk.disk c.args.disk) (g.D.SectorDisk.failures c.args.disk) d
     (g.D.SectorDisk.failures c.close.result)) (sym c.close.ensures.disk)
     (subst (λ (n : ℕ). IsCurrent Earlier g.Today.GameFile.stores (g.D.SectorDisk.disk c.args.disk) (g.D.SectorDisk.failures c.args.disk)
@@ -33,7 +33,7 @@ returns-then-not-is_older-clause-refused g c =
     (g.D.SectorDisk.failures c.sync.new.self) c.sync.ensures.time c.sync.ensures.cause.later c.sync.ensures.same
     (λ honest. on_ok c.sync.result synced (c.sync.ensures.all honest)) in
     still_there (EitherLayout g.First.EarlierFile.stores g.Second.EarlierFile.stores) g.Today.GameFile.stores _ _ _ _ _ _ c.in-Err.refused.fault
-    read c.in-Err.ensures.refused
+    read c.in-Err.ensures.err.refused
 
 pub returns-then-not-is_older-clause-cause : goal.returns-then-not-is_older-clause-cause
 returns-then-not-is_older-clause-cause g c =
@@ -42,7 +42,7 @@ returns-then-not-is_older-clause-cause g c =
     (g.D.SectorDisk.failures c.sync.new.self) c.sync.ensures.time c.sync.ensures.cause.later c.sync.ensures.same
     (λ honest. on_ok c.sync.result synced (c.sync.ensures.all honest)) in
     today_unopened g.First.EarlierFile.stores g.Second.EarlierFile.stores g.Today.GameFile.stores c.requires _ _ _ _ read _ c.in-Err.refused.fault
-    (λ same. let yes = c.is_older.ensures.1 same in let no = c.if-not-is_older.true in cc) c.in-Err.ensures.cause c.in-Err.ensures.older
+    (λ same. let yes = c.is_older.ensures.1 same in let no = c.if-not-is_older.true in cc) c.in-Err.ensures.err.cause c.in-Err.ensures.err.older
 
 pub returns-in-Ok-migrate_earlier-clause-migrated : goal.returns-in-Ok-migrate_earlier-clause-migrated
 returns-in-Ok-migrate_earlier-clause-migrated g c = λ is.
@@ -51,7 +51,7 @@ returns-in-Ok-migrate_earlier-clause-migrated g c = λ is.
     (g.D.SectorDisk.failures c.sync.new.self) c.sync.ensures.time c.sync.ensures.cause.later c.sync.ensures.same
     (λ honest. on_ok c.sync.result synced (c.sync.ensures.all honest)) in
     c.in-Ok-migrate_earlier.ensures.migrated _ _
-    (read_on _ _ _ _ _ _ read c.in-Err.ensures.refused.from c.in-Err.ensures.refused.leaves)
+    (read_on _ _ _ _ _ _ read c.in-Err.ensures.err.refused.from c.in-Err.ensures.err.refused.leaves)
 
 pub returns-in-Err-migrate_earlier-clause-refused : goal.returns-in-Err-migrate_earlier-clause-refused
 returns-in-Err-migrate_earlier-clause-refused g c =
@@ -60,7 +60,7 @@ returns-in-Err-migrate_earlier-clause-refused g c =
     (g.D.SectorDisk.failures c.sync.new.self) c.sync.ensures.time c.sync.ensures.cause.later c.sync.ensures.same
     (λ honest. on_ok c.sync.result synced (c.sync.ensures.all honest)) in
     c.in-Err-migrate_earlier.ensures.refused _ _
-    (read_on _ _ _ _ _ _ read c.in-Err.ensures.refused.from c.in-Err.ensures.refused.leaves)
+    (read_on _ _ _ _ _ _ read c.in-Err.ensures.err.refused.from c.in-Err.ensures.err.refused.leaves)
 
 pub returns-in-Err-migrate_earlier-clause-cause : goal.returns-in-Err-migrate_earlier-clause-cause
 returns-in-Err-migrate_earlier-clause-cause g c =
@@ -69,5 +69,5 @@ returns-in-Err-migrate_earlier-clause-cause g c =
     (g.D.SectorDisk.failures c.sync.new.self) c.sync.ensures.time c.sync.ensures.cause.later c.sync.ensures.same
     (λ honest. on_ok c.sync.result synced (c.sync.ensures.all honest)) in
     c.in-Err-migrate_earlier.ensures.cause _ _
-    (read_on _ _ _ _ _ _ read c.in-Err.ensures.refused.from c.in-Err.ensures.refused.leaves)
-    (none_by g.Today.GameFile.stores _ _ _ _ _ c.in-Err.refused.fault (c.is_older.ensures.0 c.if-not-is_older.false) read c.in-Err.ensures.cause)
+    (read_on _ _ _ _ _ _ read c.in-Err.ensures.err.refused.from c.in-Err.ensures.err.refused.leaves)
+    (none_by g.Today.GameFile.stores _ _ _ _ _ c.in-Err.refused.fault (c.is_older.ensures.0 c.if-not-is_older.false) read c.in-Err.ensures.err.cause)

@@ -1,7 +1,7 @@
 use Rattle.std.proofs.Common.{◌≡◌, inl, inr, true, false, sym, ◌∙◌}
-use Rattle.recover.specs.Migrating.{EitherLayout}
-use Rattle.recover.proofs.Migrating.{is_migrated, not_migrated, not_migrated_so}
-use Rattle.recover.proofs.Refusing.{first_cause, none_of_it, read_again, second_cause}
+use Rattle.recover.specs.Migrations.{EitherLayout}
+use Rattle.recover.proofs.Migrations.{is_migrated, not_migrated, not_migrated_so}
+use Rattle.recover.proofs.Refusals.{first_cause, none_of_it, read_again, second_cause}
 use Rattle.recover.proofs.migration.migrate_earlier.Goals as goal
 
 pub returns-in-Ok-clause-migrated : goal.returns-in-Ok-clause-migrated

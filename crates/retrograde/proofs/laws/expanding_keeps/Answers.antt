@@ -1,4 +1,4 @@
-use Rattle.retrograde.proofs.Expanding.{expanding}
+use Rattle.retrograde.proofs.RightExpansion.{expanding}
 use Rattle.retrograde.proofs.laws.expanding_keeps.Goals as goal
 
 pub returns : goal.returns

@@ -1,7 +1,7 @@
 use Rattle.std.proofs.lemmas.Cmp.{nat_list_cmp_total}
 use Rattle.retrograde.specs.Successors.{packed_cmp}
-use Rattle.retrograde.proofs.Leading.{expands_sound}
-use Rattle.retrograde.proofs.Pinning.{bytes_decided}
+use Rattle.retrograde.proofs.Results.{expands_sound}
+use Rattle.retrograde.proofs.OneResult.{bytes_decided}
 use Rattle.retrograde.proofs.laws.expanding_keeps_sound.Goals as goal
 
 pub returns : goal.returns

@@ -1,4 +1,4 @@
-use Rattle.retrograde.proofs.Loading.{loaded_sound}
+use Rattle.retrograde.proofs.FirstTable.{loaded_sound}
 use Rattle.retrograde.proofs.laws.loaded_is_sound.Goals as goal
 
 pub returns : goal.returns

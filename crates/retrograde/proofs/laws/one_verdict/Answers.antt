@@ -1,4 +1,4 @@
-use Rattle.retrograde.proofs.Auditing.{one_verdict}
+use Rattle.retrograde.proofs.Verdicts.{one_verdict}
 use Rattle.retrograde.proofs.laws.one_verdict.Goals as goal
 
 pub returns : goal.returns

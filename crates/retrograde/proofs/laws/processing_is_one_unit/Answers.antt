@@ -1,5 +1,5 @@
 use Rattle.retrograde.specs.Successors.{packed_cmp}
-use Rattle.retrograde.proofs.Leading.{settles_works}
+use Rattle.retrograde.proofs.Results.{settles_works}
 use Rattle.retrograde.proofs.laws.processing_is_one_unit.Goals as goal
 
 pub returns : goal.returns

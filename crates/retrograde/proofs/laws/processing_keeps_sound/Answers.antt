@@ -1,4 +1,4 @@
-use Rattle.retrograde.proofs.Leading.{settles_sound}
+use Rattle.retrograde.proofs.Results.{settles_sound}
 use Rattle.retrograde.proofs.laws.processing_keeps_sound.Goals as goal
 
 pub returns : goal.returns

@@ -1,4 +1,4 @@
-use Rattle.retrograde.proofs.Auditing.{moves_alike, stray_fails}
+use Rattle.retrograde.proofs.Verdicts.{moves_alike, stray_fails}
 use Rattle.retrograde.proofs.laws.stray_edges_fail_where_they_lead.Goals as goal
 
 pub returns : goal.returns

@@ -1,6 +1,6 @@
 use Rattle.std.proofs.lemmas.Cmp.{nat_list_cmp_total}
 use Rattle.retrograde.specs.Successors.{packed_cmp}
-use Rattle.retrograde.proofs.Pinning.{expands_once, settles_once}
+use Rattle.retrograde.proofs.OneResult.{expands_once, settles_once}
 use Rattle.retrograde.proofs.laws.units_lead_to_one_table.Goals as goal
 
 pub returns : goal.returns

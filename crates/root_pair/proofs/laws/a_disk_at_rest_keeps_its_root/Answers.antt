@@ -1,4 +1,4 @@
-use Rattle.root_pair.specs.aid.Rest.{rest_leaves}
+use Rattle.root_pair.specs.lemmas.Rest.{rest_leaves}
 use Rattle.root_pair.proofs.laws.a_disk_at_rest_keeps_its_root.Goals as goal
 
 pub returns : goal.returns

@@ -1,5 +1,5 @@
-use Rattle.sector_disk.specs.aid.Moments.{goes_on_trans, still_honest}
-use Rattle.root_pair.proofs.Opening.{leaves_read, leaves_reads, same_read}
+use Rattle.sector_disk.specs.lemmas.Moments.{goes_on_trans, still_honest}
+use Rattle.root_pair.proofs.Opened.{leaves_read, leaves_reads, same_read}
 use Rattle.root_pair.proofs.root.open.Goals as goal
 
 pub returns-in_err-sync_first-clause-moments : goal.returns-in_err-sync_first-clause-moments
@@ -23,7 +23,8 @@ returns-then-sectors-lt4-clause-time g c = c.sync_first.ensures.time.goes_on
 pub returns-in_err-header-clause-moments : goal.returns-in_err-header-clause-moments
 returns-in_err-header-clause-moments g c = λ honest.
     let same = c.sync_first.ensures.same honest in
-    leaves_read (c.sync_first.ensures.moments honest) same c.fetch.ensures.time (c.fetch.ensures.unchanged (still_honest c.sync_first.ensures.time.goes_on honest))
+    leaves_read (c.sync_first.ensures.moments honest) same c.fetch.ensures.time
+    (c.fetch.ensures.unchanged (still_honest c.sync_first.ensures.time.goes_on honest))
 
 pub returns-in_err-header-clause-same : goal.returns-in_err-header-clause-same
 returns-in_err-header-clause-same g c = λ honest.
@@ -35,7 +36,8 @@ returns-in_err-header-clause-time g c = goes_on_trans c.sync_first.ensures.time.
 pub returns-then-not-starts_with-clause-moments : goal.returns-then-not-starts_with-clause-moments
 returns-then-not-starts_with-clause-moments g c = λ honest.
     let same = c.sync_first.ensures.same honest in
-    leaves_read (c.sync_first.ensures.moments honest) same c.fetch.ensures.time (c.fetch.ensures.unchanged (still_honest c.sync_first.ensures.time.goes_on honest))
+    leaves_read (c.sync_first.ensures.moments honest) same c.fetch.ensures.time
+    (c.fetch.ensures.unchanged (still_honest c.sync_first.ensures.time.goes_on honest))
 
 pub returns-then-not-starts_with-clause-same : goal.returns-then-not-starts_with-clause-same
 returns-then-not-starts_with-clause-same g c = λ honest.
@@ -49,15 +51,18 @@ returns-in_err-gate-clause-moments g c = λ honest.
     let same = c.sync_first.ensures.same honest in
     let still = still_honest c.sync_first.ensures.time.goes_on honest in
     let first = leaves_read (c.sync_first.ensures.moments honest) same c.fetch.ensures.time (c.fetch.ensures.unchanged still) in
-    leaves_read first (same_read same (c.fetch.ensures.unchanged still)) c.fetch-2.ensures.time (c.fetch-2.ensures.unchanged (still_honest c.fetch.ensures.time.goes_on still))
+    leaves_read first (same_read same (c.fetch.ensures.unchanged still)) c.fetch-2.ensures.time
+    (c.fetch-2.ensures.unchanged (still_honest c.fetch.ensures.time.goes_on still))
 
 pub returns-in_err-gate-clause-same : goal.returns-in_err-gate-clause-same
 returns-in_err-gate-clause-same g c = λ honest.
     let still = still_honest c.sync_first.ensures.time.goes_on honest in
-    same_read (same_read (c.sync_first.ensures.same honest) (c.fetch.ensures.unchanged still)) (c.fetch-2.ensures.unchanged (still_honest c.fetch.ensures.time.goes_on still))
+    same_read (same_read (c.sync_first.ensures.same honest) (c.fetch.ensures.unchanged still))
+    (c.fetch-2.ensures.unchanged (still_honest c.fetch.ensures.time.goes_on still))
 
 pub returns-in_err-gate-clause-time : goal.returns-in_err-gate-clause-time
-returns-in_err-gate-clause-time g c = goes_on_trans (goes_on_trans c.sync_first.ensures.time.goes_on c.fetch.ensures.time.goes_on) c.fetch-2.ensures.time.goes_on
+returns-in_err-gate-clause-time g c = goes_on_trans
+    (goes_on_trans c.sync_first.ensures.time.goes_on c.fetch.ensures.time.goes_on) c.fetch-2.ensures.time.goes_on
 
 pub returns-in_err-bytes-clause-moments : goal.returns-in_err-bytes-clause-moments
 returns-in_err-bytes-clause-moments g c = λ honest.

@@ -1,4 +1,4 @@
-use Rattle.root_pair.proofs.Opening.{leaves_synced}
+use Rattle.root_pair.proofs.Opened.{leaves_synced}
 use Rattle.root_pair.proofs.root.sync_first.Goals as goal
 
 pub returns-clause-moments : goal.returns-clause-moments

@@ -1,4 +1,4 @@
-use Rattle.sector_disk.specs.aid.Moments.{reads_left}
+use Rattle.sector_disk.specs.lemmas.Moments.{reads_left}
 use Rattle.sector_disk.proofs.laws.reads_are_a_picture.Goals as goal
 
 pub returns : goal.returns

@@ -1,5 +1,5 @@
 use Rattle.std.proofs.Common.{◌≡◌, take}
-use Rattle.sector_disk.specs.aid.Log.{IsLastSyncOf}
+use Rattle.sector_disk.specs.lemmas.Log.{IsLastSyncOf}
 use Rattle.sector_disk.proofs.log.last_sync.Given as goal
 
 abbrev pub invariant-loop-event : goal.invariant-loop-event

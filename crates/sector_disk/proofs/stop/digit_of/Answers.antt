@@ -1,4 +1,4 @@
-use Rattle.sector_disk.proofs.Stopping.{digit_shifted}
+use Rattle.sector_disk.proofs.Stops.{digit_shifted}
 use Rattle.sector_disk.proofs.stop.digit_of.Goals as goal
 
 pub returns : goal.returns

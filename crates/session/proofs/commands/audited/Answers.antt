@@ -5,7 +5,7 @@ pub returns-in_default-clause-came : goal.returns-in_default-clause-came
 returns-in_default-clause-came g c = (c.requires.open, c.in_default.ensures.none.0 refl)
 
 pub returns-in-Err-clause-came : goal.returns-in-Err-clause-came
-returns-in-Err-clause-came g c = c.in-Err.ensures.cause c.requires.ready
+returns-in-Err-clause-came g c = c.in-Err.ensures.err.cause c.requires.ready
 
 pub returns-in-Ok-clause-came : goal.returns-in-Ok-clause-came
 returns-in-Ok-clause-came g c = record {

@@ -2,7 +2,7 @@ use Rattle.std.proofs.Common.{refl, sym, subst}
 use Rattle.std.specs.Prelude.{IsTrue}
 use Rattle.session_lines.specs.Asked.{in_look}
 use Rattle.session.specs.Sessions.{LineOutcome}
-use Rattle.session.proofs.Telling.{one_noted}
+use Rattle.session.proofs.ToldTexts.{one_noted}
 use Rattle.session.proofs.UnderWay.{outcome_of, outcome_by, done_honest}
 use Rattle.session.proofs.dialogue.answer_look.Goals as goal
 
@@ -15,6 +15,6 @@ returns-in_default g c = record {
   honest = λ ready honest. subst IsTrue (sym (done_honest _ (in_look c.args.asked) _ _ (c.put_looked.ensures.done ready))) honest;
   came = λ ready.
       outcome_by (λ status text is. record { goes_on = c.in_default.not-Quit; replied = is }) (λ q. q)
-      (outcome_of c.put_looked.result (c.put_looked.ensures.replied ready) (c.put_looked.ensures.untold ready)
+      (outcome_of c.put_looked.result (c.put_looked.ensures.written ready).replied (c.put_looked.ensures.written ready).untold
       (one_noted _ _ _ _ c.put_looked.ensures.noted) c.ended_by.ensures.written c.ended_by.ensures.unwritten);
 }

@@ -1,7 +1,7 @@
 use Rattle.std.proofs.Common.{refl, sym, subst}
 use Rattle.std.specs.Prelude.{IsTrue}
 use Rattle.session.specs.Sessions.{LineOutcome, IsLineAnswered}
-use Rattle.session.proofs.Telling.{one_noted}
+use Rattle.session.proofs.ToldTexts.{one_noted}
 use Rattle.session.proofs.UnderWay.{outcome_of, outcome_by, done_honest, needs_none}
 use Rattle.session.proofs.dialogue.answer_session.Goals as goal
 
@@ -16,11 +16,12 @@ returns-in-Listing-clause-came g c = λ ready honest.
 
 pub returns-in_default : goal.returns-in_default
 returns-in_default g c = record {
-  ready = c.put_answer.ensures.ready;
+  ready = c.put_answer.ensures.left.ready;
   honest = λ ready honest. subst IsTrue (sym (done_honest _ c.args.asked _ _ (c.put_answer.ensures.done ready))) honest;
   came = λ ready honest.
-      outcome_by (λ status text is. IsLineAnswered.plain c.args.asked (needs_none c.args.asked c.in_default.not-Listing c.in_default.not-Quit) is c.put_answer.ensures.lasts refl)
+      outcome_by (λ status text is. IsLineAnswered.plain c.args.asked
+      (needs_none c.args.asked c.in_default.not-Listing c.in_default.not-Quit) is c.put_answer.ensures.left.lasts refl)
       (λ q. q)
-      (outcome_of c.put_answer.result (c.put_answer.ensures.replied ready) (c.put_answer.ensures.untold ready)
+      (outcome_of c.put_answer.result (c.put_answer.ensures.written ready).replied (c.put_answer.ensures.written ready).untold
       (one_noted _ _ _ _ c.put_answer.ensures.noted) c.ended_by-in_default.ensures.written c.ended_by-in_default.ensures.unwritten);
 }

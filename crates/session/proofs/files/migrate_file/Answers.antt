@@ -1,4 +1,4 @@
-use Rattle.recover.specs.aid.Layouts.{our_layouts}
+use Rattle.recover.specs.lemmas.Layouts.{our_layouts}
 use Rattle.session.proofs.files.migrate_file.Goals as goal
 
 pub migrate_on-disk-requires : goal.migrate_on-disk-requires

@@ -35,7 +35,8 @@ pub returns-in-Err-2-clause-came : goal.returns-in-Err-2-clause-came
 returns-in-Err-2-clause-came g c = λ ready honest come.
     let (bytes, consumed, way) = c.loop-turn.invariant.2 ready honest come in (
       bytes,
-      consumes_and_keeps (g.R.Read.remaining c.args.input.now) (g.R.Read.remaining c.loop-turn.input) (g.R.Read.remaining c.read.new.self) bytes consumed c.in-Err.ensures.bytes,
+      consumes_and_keeps (g.R.Read.remaining c.args.input.now) (g.R.Read.remaining c.loop-turn.input)
+          (g.R.Read.remaining c.read.new.self) bytes consumed c.in-Err.ensures.bytes,
       input_failed _ _ _ _ _ _ way,
     )
 
@@ -43,7 +44,8 @@ pub returns-in-Some-clause-came : goal.returns-in-Some-clause-came
 returns-in-Some-clause-came g c = λ ready honest come.
     let (bytes, consumed, way) = c.loop-turn.invariant.2 ready honest come in (
       bytes ++ take c.in-Ok.count c.read.new.buf,
-      consumes_then (g.R.Read.remaining c.args.input.now) (g.R.Read.remaining c.loop-turn.input) (g.R.Read.remaining c.read.new.self) bytes _ consumed c.in-Ok.ensures.bytes.0,
+      consumes_then (g.R.Read.remaining c.args.input.now) (g.R.Read.remaining c.loop-turn.input)
+          (g.R.Read.remaining c.read.new.self) bytes _ consumed c.in-Ok.ensures.bytes.0,
       IsSession.within c.in-Some.status (c.in-Some.ensures.came (c.loop-turn.invariant.0 ready) (c.loop-turn.invariant.1 ready honest) bytes _ _ way),
     )
 
@@ -54,7 +56,8 @@ loop-turn-preserved g c = (
   λ ready honest come.
       let (bytes, consumed, way) = c.loop-turn.invariant.2 ready honest come in (
         bytes ++ take c.in-Ok.count c.read.new.buf,
-        consumes_then (g.R.Read.remaining c.args.input.now) (g.R.Read.remaining c.loop-turn.input) (g.R.Read.remaining c.read.new.self) bytes _ consumed c.in-Ok.ensures.bytes.0,
+        consumes_then (g.R.Read.remaining c.args.input.now) (g.R.Read.remaining c.loop-turn.input)
+            (g.R.Read.remaining c.read.new.self) bytes _ consumed c.in-Ok.ensures.bytes.0,
         c.in_default.ensures.came (c.loop-turn.invariant.0 ready) (c.loop-turn.invariant.1 ready honest) bytes _ _ way,
       ),
 )

@@ -1,5 +1,5 @@
 use Rattle.std.proofs.Common.{refl}
-use Rattle.session.proofs.Saying.{come_of_none}
+use Rattle.session.proofs.Requests.{come_of_none}
 use Rattle.session.proofs.UnderWay.{line_answered, no_room}
 use Rattle.session.proofs.line_by_line.answer_byte.Goals as goal
 

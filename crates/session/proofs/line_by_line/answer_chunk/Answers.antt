@@ -21,7 +21,8 @@ returns-then-is_some-clause-came g c = λ ready honest bytes begins before way.
     ((bytes ++ take i chunk) ++ get_or chunk i 0 ∷ []) (drop (i + 1) chunk) (bytes ++ chunk) begins
     (session_state c.answer_byte-ended.new.solver.file c.answer_byte-ended.new.dialogue.manner) before
     (seen state g.W.Write.contents c.answer_byte-ended.new.out c.answer_byte-ended.new.moments) c.answer_byte-ended.new.dialogue.line
-    c.answer_byte-ended.result (next_and_others bytes chunk i (get_or chunk i 0) (take_next chunk i 0 c.loop-byte-test.true)) (sym c.is_some.ensures ∙ c.if-is_some.true)
+    c.answer_byte-ended.result (next_and_others bytes chunk i (get_or chunk i 0) (take_next chunk i 0 c.loop-byte-test.true))
+    (sym c.is_some.ensures ∙ c.if-is_some.true)
     (c.answer_byte-ended.ensures.came (c.loop-byte.invariant.0 ready) (c.loop-byte.invariant.1 ready honest) (bytes ++ take i chunk) begins before
     (c.loop-byte.invariant.2 ready honest bytes begins before way))
 

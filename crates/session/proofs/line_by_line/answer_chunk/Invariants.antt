@@ -9,7 +9,8 @@ abbrev pub invariant-loop-byte : goal.invariant-loop-byte
 invariant-loop-byte g l =
     (IsReady l.fn.solver → IsReady l.solver)
     × (IsReady l.fn.solver → IsTrue (state l.fn.solver).disk.honest → IsTrue (state l.solver).disk.honest)
-    × (IsReady l.fn.solver → IsTrue (state l.fn.solver).disk.honest → (bytes : List ℕ) (begins : SessionState g.row.F.Denot g.row.F-Version.Denot) (before : Seen)
+    × (IsReady l.fn.solver → IsTrue (state l.fn.solver).disk.honest
+    → (bytes : List ℕ) (begins : SessionState g.row.F.Denot g.row.F-Version.Denot) (before : Seen)
     → IsUnderWay g.F.GameFile.stores g.F.GameFile.state g.F.Versions.is_version g.F.Versions.are_two g.F.Versions.is_used_up g.F.GameFile.lasts bytes begins before
     (session_state l.fn.solver.file l.fn.dialogue.manner) l.fn.dialogue.line (seen state g.W.Write.contents l.fn.out l.fn.moments)
     → IsUnderWay g.F.GameFile.stores g.F.GameFile.state g.F.Versions.is_version g.F.Versions.are_two g.F.Versions.is_used_up g.F.GameFile.lasts (bytes ++ take l.byte-index l.chunk)

@@ -1,6 +1,6 @@
 use Rattle.std.proofs.Common.{subst}
 use Rattle.session_lines.specs.Asked.{Asks}
-use Rattle.session.proofs.Saying.{ended_says}
+use Rattle.session.proofs.Requests.{ended_says}
 use Rattle.session.proofs.UnderWay.{outcome_by}
 use Rattle.session.proofs.line_by_line.answer_ended.Goals as goal
 

@@ -1,6 +1,6 @@
 use Rattle.std.proofs.Common.{refl, subst}
 use Rattle.session_lines.specs.Asked.{Asks}
-use Rattle.session.proofs.Saying.{last_says}
+use Rattle.session.proofs.Requests.{last_says}
 use Rattle.session.proofs.UnderWay.{outcome_by}
 use Rattle.session.proofs.line_by_line.answer_last.Goals as goal
 

@@ -14,7 +14,8 @@ returns-clause-came g c = λ ready honest.
       consumed,
       subst (λ b. IsSession g.F.GameFile.stores g.F.GameFile.state g.F.Versions.is_version g.F.Versions.are_two g.F.Versions.is_used_up g.F.GameFile.lasts bytes b
           ends (g.R.Read.remaining c.answer_all-status.new.input)
-          (seen state g.W.Write.contents c.args.out.now c.args.moments.now) (seen state g.W.Write.contents c.answer_all-status.new.out c.answer_all-status.new.moments)
+          (seen state g.W.Write.contents c.args.out.now c.args.moments.now)
+          (seen state g.W.Write.contents c.answer_all-status.new.out c.answer_all-status.new.moments)
           c.answer_all-status.result)
           (ap (λ listings. record { file = c.args.solver.now.file; listings = listings }) c.begun-dialogue.ensures.kept) session,
       elim c.match-manner.branch [

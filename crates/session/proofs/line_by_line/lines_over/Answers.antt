@@ -7,10 +7,10 @@ use Rattle.session.proofs.line_by_line.lines_over.Goals as goal
 pub returns-in-Ok : goal.returns-in-Ok
 returns-in-Ok g c = λ honest.
     let (bytes, ends, consumed, session, same) =
-    c.lines_on-status.ensures.came c.in-Ok.ensures.ready (subst IsTrue (sym c.in-Ok.ensures.opened.from.goes_on.honest) honest) in (
+    c.lines_on-status.ensures.came c.in-Ok.ensures.ok.ready (subst IsTrue (sym c.in-Ok.ensures.ok.opened.from.goes_on.honest) honest) in (
       bytes,
       consumed,
-      IsSessionOver.opened c.in-Ok.solver.file ends c.in-Ok.ensures.opened session
+      IsSessionOver.opened c.in-Ok.solver.file ends c.in-Ok.ensures.ok.opened session
           (record { disk = c.close.ensures.disk ∙ ap (λ s. s.disk) same; failures = c.close.ensures.failures ∙ ap (λ s. s.failures) same }),
     )
 
@@ -18,5 +18,5 @@ pub returns-in-Err : goal.returns-in-Err
 returns-in-Err g c = λ honest. (
   [],
   consumes_nothing (g.R.Read.remaining c.args.input.now),
-  IsSessionOver.unopened c.in-Err.refused.fault (c.in-Err.ensures.refused, c.in-Err.ensures.cause) refl c.refuse.ensures refl,
+  IsSessionOver.unopened c.in-Err.refused.fault (c.in-Err.ensures.err.refused, c.in-Err.ensures.err.cause) refl c.refuse.ensures refl,
 )

@@ -1,4 +1,4 @@
-use Rattle.session.proofs.Bringing.{brought_so}
+use Rattle.session.proofs.Brought.{brought_so}
 use Rattle.session.proofs.migrating.brought.Goals as goal
 
 pub returns-in-Ok : goal.returns-in-Ok

@@ -1,4 +1,4 @@
-use Rattle.session_lines.proofs.Listing.{actions_listed, text_refused}
+use Rattle.session_lines.proofs.ActionLists.{actions_listed, text_refused}
 use Rattle.session_lines.proofs.actions.actions_to.Goals as goal
 
 pub returns-in-Ok : goal.returns-in-Ok

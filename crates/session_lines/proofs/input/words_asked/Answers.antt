@@ -8,11 +8,13 @@ pub returns-then-is_empty : goal.returns-then-is_empty
 returns-then-is_empty c = one_word _ _ _ [] [] _ [] [] _ c.next_word.ensures (nothing _ (search rules)) c.word_asked.ensures
 
 pub returns-then-is_empty-2 : goal.returns-then-is_empty-2
-returns-then-is_empty-2 c = two_words _ _ _ _ [] _ _ [] _ c.next_word.ensures (search rules) c.next_word-2.ensures (nothing _ (search rules)) c.one_asked.ensures
+returns-then-is_empty-2 c = two_words _ _ _ _ [] _ _ [] _ c.next_word.ensures (search rules) c.next_word-2.ensures
+    (nothing _ (search rules)) c.one_asked.ensures
 
 pub returns-then-is_empty-3 : goal.returns-then-is_empty-3
 returns-then-is_empty-3 c =
-    three_words _ _ _ _ _ _ _ _ _ c.next_word.ensures (search rules) c.next_word-2.ensures (search rules) c.next_word-3.ensures (nothing _ (search rules)) c.two_asked.ensures
+    three_words _ _ _ _ _ _ _ _ _ c.next_word.ensures (search rules) c.next_word-2.ensures (search rules) c.next_word-3.ensures
+    (nothing _ (search rules)) c.two_asked.ensures
 
 pub returns-else-is_empty-3 : goal.returns-else-is_empty-3
 returns-else-is_empty-3 c =

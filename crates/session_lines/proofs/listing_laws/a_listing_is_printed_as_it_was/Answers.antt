@@ -1,5 +1,5 @@
-use Rattle.sector_disk.specs.aid.Moments.{still_honest}
-use Rattle.session_lines.specs.aid.Printed.{next_printed, printed_rows}
+use Rattle.sector_disk.specs.lemmas.Moments.{still_honest}
+use Rattle.session_lines.specs.lemmas.Printed.{next_printed, printed_rows}
 use Rattle.session_lines.proofs.listing_laws.a_listing_is_printed_as_it_was.Goals as goal
 
 pub returns-clause-told : goal.returns-clause-told

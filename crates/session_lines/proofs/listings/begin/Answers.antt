@@ -4,10 +4,10 @@ pub returns-in-Ok-clause-begun : goal.returns-in-Ok-clause-begun
 returns-in-Ok-clause-begun g c = (
   c.in_ok-listing.listing,
   c.in-Ok.ensures.items,
-  c.in_ok-listing.ensures.first,
-  λ ready honest kept is. (c.in_ok-listing.ensures.begun ready honest kept is, c.in_ok-listing.ensures.table ready honest kept is),
-  λ other table there. (c.in_ok-listing.ensures.others other table there).0,
+  c.in_ok-listing.ensures.ok.first,
+  λ ready honest kept is. (c.in_ok-listing.ensures.ok.begun ready honest kept is, c.in_ok-listing.ensures.table ready honest kept is),
+  λ other table there. (c.in_ok-listing.ensures.ok.others other table there).0,
 )
 
 pub returns-in-Ok-clause-all : goal.returns-in-Ok-clause-all
-returns-in-Ok-clause-all g c = λ other table there. (c.in_ok-listing.ensures.others other table there).1
+returns-in-Ok-clause-all g c = λ other table there. (c.in_ok-listing.ensures.ok.others other table there).1

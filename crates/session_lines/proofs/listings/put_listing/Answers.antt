@@ -1,5 +1,5 @@
 use Rattle.std.proofs.Common.{inl, inr, refl}
-use Rattle.session_lines.proofs.Replying.{replied, untold}
+use Rattle.session_lines.proofs.ReplyLines.{replied, untold}
 use Rattle.session_lines.proofs.listings.put_listing.Goals as goal
 
 pub returns-in-Ok-clause-replied : goal.returns-in-Ok-clause-replied

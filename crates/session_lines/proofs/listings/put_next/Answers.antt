@@ -1,5 +1,5 @@
 use Rattle.session_lines.proofs.Plain.{text_or_refusal}
-use Rattle.session_lines.proofs.Replying.{replied_by, untold_by}
+use Rattle.session_lines.proofs.ReplyLines.{replied_by, untold_by}
 use Rattle.session_lines.proofs.listings.put_next.Goals as goal
 
 pub returns-clause-replied : goal.returns-clause-replied

@@ -1,5 +1,5 @@
 use Rattle.std.proofs.Common.{inr}
-use Rattle.session_lines.proofs.Replying.{replied_by, untold_by}
+use Rattle.session_lines.proofs.ReplyLines.{replied_by, untold_by}
 use Rattle.session_lines.proofs.listings.put_next_of_last.Goals as goal
 
 pub returns-clause-replied : goal.returns-clause-replied
@@ -12,7 +12,7 @@ returns-clause-replied g c = λ ready honest.
       was = c.in-Some.ensures.items;
       is = c.push_reserved.ensures.items;
       same = c.put_next-written.ensures.same;
-      all = λ other table there. g.met.F.Versions.version_lasts other table _ _ honest c.put_next-written.ensures.lasts there;
+      all = λ other table there. g.met.F.Versions.version_lasts other table _ _ honest c.put_next-written.ensures.left.lasts there;
       told = told;
     }))
     (c.put_next-written.ensures.replied ready honest)
@@ -27,7 +27,7 @@ returns-clause-untold g c = λ ready honest.
       was = c.in-Some.ensures.items;
       is = c.push_reserved.ensures.items;
       same = c.put_next-written.ensures.same;
-      all = λ other table there. g.met.F.Versions.version_lasts other table _ _ honest c.put_next-written.ensures.lasts there;
+      all = λ other table there. g.met.F.Versions.version_lasts other table _ _ honest c.put_next-written.ensures.left.lasts there;
       told = told;
     }))
     (c.put_next-written.ensures.untold ready honest)

@@ -30,6 +30,8 @@ returns c =
     let position = position_of game c.new-packing.result c.in-Some.next c.deref.result.now form packed in
     let word = c.in_ok-word.ensures in
     let next = c.in-Some.next in
-    let one = subst (λ g. IfOk c.move_line.result (λ line. line.items ≡ line_of g (map (λ m. (m.number, m.vertex)) c.deref-2.result.now) next)) c.game-2.ensures c.move_line.ensures in
+    let one = subst (λ g. IfOk c.move_line.result
+    (λ line. line.items ≡ line_of g (map (λ m. (m.number, m.vertex)) c.deref-2.result.now) next)) c.game-2.ensures c.move_line.ensures in
     let two = subst (λ ws. IfOk c.move_line.result (λ line. line.items ≡ line_of game (map (λ m. (m.number, m.vertex)) ws) next)) c.deref-2.ensures one in
-    line_is game _ c.successor.result.now.items _ next c.move_line.result c.successor.ensures word position (sym c.deref.ensures.0 ∙ bytes_are game c.new-packing.result c.in-Some.next c.deref.result.now form packed) two
+    line_is game _ c.successor.result.now.items _ next c.move_line.result c.successor.ensures word position
+    (sym c.deref.ensures.0 ∙ bytes_are game c.new-packing.result c.in-Some.next c.deref.result.now form packed) two

@@ -1,7 +1,7 @@
 use Rattle.std.proofs.Common.{[], ◌∷◌, ◌++◌, ap, sym, ◌∙◌, subst, inl, inr, length, refl}
 use Rattle.std.specs.Prelude.{codes}
 use Rattle.std.specs.Io.KnownBytes.{Keeps}
-use Rattle.session_lines.proofs.Appending.{appends_and_keeps}
+use Rattle.session_lines.proofs.Appends.{appends_and_keeps}
 use Rattle.legal_moves.specs.Compiled.{compiled_game}
 use Rattle.session_lines.proofs.AnswerLemmas.{nothing_left}
 use Rattle.session_lines.proofs.PartLemmas.{whole_kept}
@@ -17,8 +17,12 @@ returns-clause-ok g c =
       | then-len-eq0+in_ok-put_bytes w ↦
           let bytes = w.in_ok-put_bytes.ensures in
           let none = nothing_left c.args.moves.now (sym c.len.ensures ∙ w.if-len-eq0.true) in
-          let flushed = subst (λ o. Keeps (contents o) (contents c.flush.new.self)) w.out-is kept.bytes in
-          (codes "ended" ++ 10 ∷ [], inl (none, refl), appends_and_keeps (contents c.args.out.now) (contents w.put_bytes.new.out) (contents c.flush.new.self) _ bytes.all flushed)
+          let flushed = subst (λ o. Keeps (contents o) (contents c.flush.new.self)) w.out-is kept.bytes in (
+            codes "ended" ++ 10 ∷ [],
+            inl (none, refl),
+            appends_and_keeps (contents c.args.out.now) (contents w.put_bytes.new.out)
+                (contents c.flush.new.self) _ bytes.all flushed,
+          )
       | else-len-eq0+in_ok-write_lines w ↦
           let lines = w.in_ok-write_lines.ensures in
           let flushed = subst (λ o. Keeps (contents o) (contents c.flush.new.self)) w.out-is kept.bytes in (

@@ -4,7 +4,7 @@ use Rattle.std.specs.Io.KnownBytes.{Appends}
 use Rattle.legal_moves.specs.Compiled.{compiled_game}
 use Rattle.session_lines.specs.Lines.{AreLines}
 use Rattle.session_lines.specs.Parts.{AppendsPart}
-use Rattle.session_lines.proofs.Appending.{appends_then, appends_nothing}
+use Rattle.session_lines.proofs.Appends.{appends_then, appends_nothing}
 use Rattle.session_lines.proofs.WritingLemmas.{lines_part, one_more_line, stopped, unwritten}
 use Rattle.session_lines.proofs.move_lines.write_lines.Goals as goal
 
@@ -18,14 +18,18 @@ loop-k-preserved g c =
     let is = c.in_ok-line.ensures in
     let bytes = c.in_ok-put_bytes.ensures in (
       before.0 ++ line,
-      one_more_line (compiled_game c.args.compiled.now) c.args.moves.now c.loop-k.k before.0 line (omega (arith, c.loop-k-test.true, c.len-k-end.ensures)) before.1 is,
-      appends_then (g.W.Write.contents c.args.out.now) (g.W.Write.contents c.loop-k.out) (g.W.Write.contents c.put_bytes.new.out) before.0 line before.2 (subst (Appends (g.W.Write.contents c.loop-k.out) (g.W.Write.contents c.put_bytes.new.out)) c.deref.ensures.value bytes.all),
+      one_more_line (compiled_game c.args.compiled.now) c.args.moves.now c.loop-k.k before.0 line
+          (omega (arith, c.loop-k-test.true, c.len-k-end.ensures)) before.1 is,
+      appends_then (g.W.Write.contents c.args.out.now) (g.W.Write.contents c.loop-k.out)
+          (g.W.Write.contents c.put_bytes.new.out) before.0 line before.2
+          (subst (Appends (g.W.Write.contents c.loop-k.out) (g.W.Write.contents c.put_bytes.new.out)) c.deref.ensures.value bytes.all),
     )
 
 pub returns-in_err-line-clause-stopped : goal.returns-in_err-line-clause-stopped
 returns-in_err-line-clause-stopped g c =
     let before = c.loop-k.invariant in
-    stopped (compiled_game c.args.compiled.now) c.args.moves.now _ _ _ c.from_residual.result c.from_residual.ensures.1 (c.loop-k.k, before.0, before.1, before.2)
+    stopped (compiled_game c.args.compiled.now) c.args.moves.now _ _ _ c.from_residual.result c.from_residual.ensures.1
+    (c.loop-k.k, before.0, before.1, before.2)
 
 pub returns-in_err-put_bytes-clause-stopped : goal.returns-in_err-put_bytes-clause-stopped
 returns-in_err-put_bytes-clause-stopped g c =

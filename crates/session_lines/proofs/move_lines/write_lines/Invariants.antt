@@ -6,4 +6,5 @@ use Rattle.session_lines.proofs.move_lines.write_lines.Given as goal
 
 abbrev pub invariant-loop-k : goal.invariant-loop-k
 invariant-loop-k g l =
-    (written : List ℕ) × AreLines (compiled_game l.compiled) (take l.k l.moves) written × Appends (g.W.Write.contents l.fn.out) (g.W.Write.contents l.out) written
+    (written : List ℕ) × AreLines (compiled_game l.compiled) (take l.k l.moves) written
+    × Appends (g.W.Write.contents l.fn.out) (g.W.Write.contents l.out) written

@@ -1,7 +1,7 @@
 use Rattle.std.proofs.Common.{[], inl, refl}
 use Rattle.legal_moves.specs.Compiled.{compiled_game}
 use Rattle.session_lines.specs.Answers.{IsListing}
-use Rattle.session_lines.proofs.Appending.{appends_nothing}
+use Rattle.session_lines.proofs.Appends.{appends_nothing}
 use Rattle.session_lines.proofs.AnswerLemmas.{positions_of, answer_of, on_ok, stopped_of}
 use Rattle.session_lines.proofs.move_lines.write_moves.Goals as goal
 

@@ -7,4 +7,4 @@ returns-in-Ok g c =
     told_of c.args.text.now _ (compiled_game c.in-Ok.book) c.put_moves_at.result _ _ c.in-Ok.ensures.reads c.put_moves_at.ensures
 
 pub returns-in-Err : goal.returns-in-Err
-returns-in-Err g c = refused_of c.args.text.now _ c.in-Err.refused c.write_refused.result _ _ c.in-Err.ensures.refused c.write_refused.ensures
+returns-in-Err g c = refused_of c.args.text.now _ c.in-Err.fault c.write_refused.result _ _ c.in-Err.ensures.refused c.write_refused.ensures

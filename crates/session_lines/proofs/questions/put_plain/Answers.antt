@@ -1,7 +1,7 @@
 use Rattle.std.proofs.Common.{ap, inl, inr, refl}
 use Rattle.session_lines.specs.Replies.{pages_line}
 use Rattle.session_lines.proofs.Plain.{no_command}
-use Rattle.session_lines.proofs.Replying.{replied, untold, untold_at}
+use Rattle.session_lines.proofs.ReplyLines.{replied, untold, untold_at}
 use Rattle.session_lines.proofs.questions.put_plain.Goals as goal
 
 pub returns-in_err-status-in-Help-clause-untold : goal.returns-in_err-status-in-Help-clause-untold
@@ -18,15 +18,30 @@ returns-in_err-put_status-in-Status-clause-untold g c = λ ready plain.
 pub returns-in_err-put_pages-in-Pages-clause-untold : goal.returns-in_err-put_pages-in-Pages-clause-untold
 returns-in_err-put_pages-in-Pages-clause-untold g c = λ ready plain.
     rw c.in-Pages.is
-    (untold_at _ c.from_residual-in_err-put_pages-in-Pages.result 0 _
-    (refl, refl, record { free = c.free_pages.result; some = c.free_pages.ensures.used ready; line_is = ap (λ n. pages_line n c.free_pages.result) c.capacity.ensures })
+    (untold_at _ c.from_residual-in_err-put_pages-in-Pages.result 0 _ (
+      refl,
+      refl,
+      record {
+        free = c.free_pages.result;
+        some = c.free_pages.ensures.used ready;
+        line_is = ap (λ n. pages_line n c.free_pages.result) c.capacity.ensures;
+      },
+    )
     c.in_err-put_pages-in-Pages.ensures.part)
 
 pub returns-in_ok-put_pages-in-Pages-clause-replied : goal.returns-in_ok-put_pages-in-Pages-clause-replied
 returns-in_ok-put_pages-in-Pages-clause-replied g c = λ ready plain.
     rw c.in-Pages.is (
       _,
-      (refl, refl, record { free = c.free_pages.result; some = c.free_pages.ensures.used ready; line_is = ap (λ n. pages_line n c.free_pages.result) c.capacity.ensures }),
+      (
+        refl,
+        refl,
+        record {
+          free = c.free_pages.result;
+          some = c.free_pages.ensures.used ready;
+          line_is = ap (λ n. pages_line n c.free_pages.result) c.capacity.ensures;
+        },
+      ),
       c.in_ok-put_pages-in-Pages.ensures.all,
     )
 

@@ -1,5 +1,5 @@
 use Rattle.std.proofs.Common.{refl}
-use Rattle.session_lines.proofs.Replying.{replied, untold}
+use Rattle.session_lines.proofs.ReplyLines.{replied, untold}
 use Rattle.session_lines.proofs.questions.put_text.Goals as goal
 
 pub returns-in-Ok-clause-written : goal.returns-in-Ok-clause-written

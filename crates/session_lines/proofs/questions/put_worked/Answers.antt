@@ -3,7 +3,7 @@ use Rattle.solver.specs.declared.fault.SolverFault.TheVariants.{TableFull}
 use Rattle.session_lines.specs.Answered.{status_of_reply}
 use Rattle.solver.specs.declared.replies.Reply.TheVariants.{Refused}
 use Rattle.session_lines.specs.Told.{fault_line, IsReplyLine}
-use Rattle.session_lines.proofs.Replying.{untold, untold_at}
+use Rattle.session_lines.proofs.ReplyLines.{untold, untold_at}
 use Rattle.session_lines.proofs.questions.put_worked.Goals as goal
 
 pub returns-in-Refused-clause-done : goal.returns-in-Refused-clause-done
@@ -26,8 +26,7 @@ returns-in_err-put_refused-in-Refused-TableFull-clause-untold g c = λ ready.
 pub returns-in_err-put_reply-in_default : goal.returns-in_err-put_reply-in_default
 returns-in_err-put_reply-in_default g c = record {
   done = λ ready. (_, c.answer-reply.ensures.turn ready);
-  ready = c.answer-reply.ensures.ready;
-  lasts = c.answer-reply.ensures.lasts;
+  left = record { ready = c.answer-reply.ensures.left.ready; lasts = c.answer-reply.ensures.left.lasts };
   worked = search rules;
   noted = c.note.ensures;
   untold = λ ready.

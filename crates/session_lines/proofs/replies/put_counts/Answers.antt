@@ -1,7 +1,7 @@
 use Rattle.std.proofs.Common.{[], ◌∷◌, ◌++◌, codes}
 use Rattle.session_lines.specs.Counted.{IsCountsLine, counts_text, finished, unfinished}
 use Rattle.session_lines.proofs.CountLemmas.{counts_end}
-use Rattle.session_lines.proofs.PrintTelling.{not_done}
+use Rattle.session_lines.proofs.Printed.{not_done}
 use Rattle.session_lines.proofs.PartLemmas.{line_all, line_part, on_err_by, part_before, part_behind}
 use Rattle.session_lines.proofs.replies.put_counts.Goals as goal
 
@@ -16,14 +16,20 @@ returns-then-counts-2-clause-all g c =
 
 pub returns-then-counts-2-clause-part : goal.returns-then-counts-2-clause-part
 returns-then-counts-2-clause-part g c =
-    on_err_by c.put_line.result (λ part. (_, finished (c.if-counts.true, c.if-counts-2.true), part_behind (counts_text c.args.counts) c.in_ok-put_fields.ensures.all part)) c.put_line.ensures.part
+    on_err_by c.put_line.result (λ part. (
+      _,
+      finished (c.if-counts.true, c.if-counts-2.true),
+      part_behind (counts_text c.args.counts) c.in_ok-put_fields.ensures.all part,
+    )) c.put_line.ensures.part
 
 pub returns-else-counts-clause-all : goal.returns-else-counts-clause-all
 returns-else-counts-clause-all g c =
-    line_all c.put_line-else-counts.result (IsCountsLine c.args.counts) _ _ _ (counts_text c.args.counts) (codes " open" ++ 10 ∷ []) c.in_ok-put_fields.ensures.all
+    line_all c.put_line-else-counts.result (IsCountsLine c.args.counts) _ _ _ (counts_text c.args.counts)
+    (codes " open" ++ 10 ∷ []) c.in_ok-put_fields.ensures.all
     (unfinished (not_done c.args.counts c.else-counts.either)) c.put_line-else-counts.ensures.all
 
 pub returns-else-counts-clause-part : goal.returns-else-counts-clause-part
 returns-else-counts-clause-part g c =
-    on_err_by c.put_line-else-counts.result (λ part. (_, unfinished (not_done c.args.counts c.else-counts.either), part_behind (counts_text c.args.counts) c.in_ok-put_fields.ensures.all part))
+    on_err_by c.put_line-else-counts.result
+    (λ part. (_, unfinished (not_done c.args.counts c.else-counts.either), part_behind (counts_text c.args.counts) c.in_ok-put_fields.ensures.all part))
     c.put_line-else-counts.ensures.part

@@ -13,14 +13,16 @@ returns-in_err-put_field-2-clause-part g c =
     let used : c.saturating_sub.result ≡ c.args.pages - c.args.free = search rules in
     on_err _ (pieces_behind (codes "pages ") (decimal c.args.pages) c.in_ok-put_field.ensures.all
     (pieces_before (codes " used ") (decimal (c.args.pages - c.args.free)) _
-    (subst (λ n. AppendsPart (g.W.Write.contents c.put_field.new.out) (g.W.Write.contents c.put_field-2.new.out) (codes " used " ++ decimal n)) used c.in_err-put_field-2.ensures.part)))
+    (subst (λ n. AppendsPart (g.W.Write.contents c.put_field.new.out) (g.W.Write.contents c.put_field-2.new.out)
+    (codes " used " ++ decimal n)) used c.in_err-put_field-2.ensures.part)))
 
 pub returns-in_err-put_field-3-clause-part : goal.returns-in_err-put_field-3-clause-part
 returns-in_err-put_field-3-clause-part g c =
     let used : c.saturating_sub.result ≡ c.args.pages - c.args.free = search rules in
     on_err _ (pieces_behind (codes "pages ") (decimal c.args.pages) c.in_ok-put_field.ensures.all
     (pieces_behind (codes " used ") (decimal (c.args.pages - c.args.free))
-    (subst (λ n. Appends (g.W.Write.contents c.put_field.new.out) (g.W.Write.contents c.put_field-2.new.out) (codes " used " ++ decimal n)) used c.in_ok-put_field-2.ensures.all)
+    (subst (λ n. Appends (g.W.Write.contents c.put_field.new.out) (g.W.Write.contents c.put_field-2.new.out)
+    (codes " used " ++ decimal n)) used c.in_ok-put_field-2.ensures.all)
     (pieces_before (codes " free ") (decimal c.args.free) _ c.in_err-put_field-3.ensures.part)))
 
 pub returns-clause-all : goal.returns-clause-all
@@ -29,7 +31,8 @@ returns-clause-all g c =
     on_ok_by c.put_line.result
     (λ done. pieces_then _ _ _ (codes "pages ") (decimal c.args.pages) _ c.in_ok-put_field.ensures.all
     (pieces_then _ _ _ (codes " used ") (decimal (c.args.pages - c.args.free)) _
-    (subst (λ n. Appends (g.W.Write.contents c.put_field.new.out) (g.W.Write.contents c.put_field-2.new.out) (codes " used " ++ decimal n)) used c.in_ok-put_field-2.ensures.all)
+    (subst (λ n. Appends (g.W.Write.contents c.put_field.new.out) (g.W.Write.contents c.put_field-2.new.out)
+    (codes " used " ++ decimal n)) used c.in_ok-put_field-2.ensures.all)
     (pieces_then _ _ _ (codes " free ") (decimal c.args.free) _ c.in_ok-put_field-3.ensures.all done)))
     c.put_line.ensures.all
 
@@ -39,6 +42,7 @@ returns-clause-part g c =
     on_err_by c.put_line.result
     (λ part. pieces_behind (codes "pages ") (decimal c.args.pages) c.in_ok-put_field.ensures.all
     (pieces_behind (codes " used ") (decimal (c.args.pages - c.args.free))
-    (subst (λ n. Appends (g.W.Write.contents c.put_field.new.out) (g.W.Write.contents c.put_field-2.new.out) (codes " used " ++ decimal n)) used c.in_ok-put_field-2.ensures.all)
+    (subst (λ n. Appends (g.W.Write.contents c.put_field.new.out) (g.W.Write.contents c.put_field-2.new.out)
+    (codes " used " ++ decimal n)) used c.in_ok-put_field-2.ensures.all)
     (pieces_behind (codes " free ") (decimal c.args.free) c.in_ok-put_field-3.ensures.all part)))
     c.put_line.ensures.part

@@ -1,7 +1,7 @@
 use Rattle.std.proofs.Common.{ℕ, List, [], ◌∷◌, ◌++◌, codes}
 use Rattle.std.specs.Fmt.{decimal}
 use Rattle.session_lines.specs.Counted.{IsCountsLine, IsWorkLine}
-use Rattle.session_lines.proofs.Appending.{appends_then}
+use Rattle.session_lines.proofs.Appends.{appends_then}
 use Rattle.session_lines.proofs.CountLemmas.{counts_end, work_line}
 use Rattle.session_lines.proofs.PartLemmas.{line_part, line_part_by, line_all_by, part_before, part_behind, pieces_before, pieces_behind, pieces_then}
 use Rattle.session_lines.proofs.replies.put_work.Goals as goal

@@ -1,6 +1,6 @@
 use Rattle.session_lines.specs.Verdicts.{IsRightLine, finished, unfinished}
 use Rattle.session_lines.proofs.PartLemmas.{on_err_by}
-use Rattle.session_lines.proofs.PrintTelling.{told_at_once, not_done}
+use Rattle.session_lines.proofs.Printed.{told_at_once, not_done}
 use Rattle.session_lines.proofs.verdicts.put_right.Goals as goal
 
 pub returns-then-processed-settled-clause-all : goal.returns-then-processed-settled-clause-all

@@ -2,10 +2,7 @@ use Rattle.std.proofs.Common.{◌<◌, suc, rules, ap, length, refl, arith}
 use Rattle.retrograde.specs.declared.records.Counts.{Counts}
 use Rattle.settle.proofs.Bounds.{bound_of, step, stuck_at, ends}
 use Rattle.settle.proofs.Pages.{edges_to, one_more, through, reading_takes, lowering_takes}
-use Rattle.frontier.proofs.Passing.{passed_on}
-use Rattle.frontier.proofs.Faults.{none_done, no_conflict, done_consistent}
 use Rattle.table.proofs.Frames.{as_written, written_then}
-use Rattle.frontier.proofs.Frames.{is_failed, given_up_since}
 use Rattle.settle.proofs.lower.lower_all.Goals as goal
 
 pub returns-in_err-lower-clause-stuck : goal.returns-in_err-lower-clause-stuck
@@ -15,7 +12,8 @@ returns-in_err-lower-clause-stuck g c = λ honest is.
     let (r, has, stuck) = c.in_err-lower.ensures.stuck (c.in_ok-predecessor.ensures.read.honest.0 h) (search rules) in (
       c.in-Some.predecessor,
       stuck_at (g.M.GameGraph.graph c.args.source.now) c.args.number c.args.winner c.args.distance (g.T.Table.stored c.args.table.now)
-          _ _ c.loop-predecessor.after (c.loop-predecessor.invariant.done honest) (c.in_ok-predecessor.ensures.read.same h) c.in-Some.predecessor edge r has stuck,
+          _ _ c.loop-predecessor.after (c.loop-predecessor.invariant.done honest)
+          (c.in_ok-predecessor.ensures.read.same h) c.in-Some.predecessor edge r has stuck,
     )
 
 pub loop-predecessor-preserved : goal.loop-predecessor-preserved
@@ -49,18 +47,6 @@ returns-clause-lowered g c = λ honest.
     _ _ c.loop-predecessor.after (c.loop-predecessor.invariant.done honest) (c.in_ok-predecessor.ensures.read.same h) none
     (length (g.T.Table.stored c.args.table.now).positions) (omega (arith, count, c.loop-predecessor.invariant.within))
 
-pub returns-in_err-predecessor-clause-lowered : goal.returns-in_err-predecessor-clause-lowered
-returns-in_err-predecessor-clause-lowered g c = λ honest. none_done _ c.from_residual.result c.from_residual.ensures.0
-
-pub returns-in_err-predecessor-clause-stuck : goal.returns-in_err-predecessor-clause-stuck
-returns-in_err-predecessor-clause-stuck g c = λ honest is. absurd (no_conflict c.from_residual.result _ c.from_residual.ensures is)
-
-pub returns-in_err-lower-clause-lowered : goal.returns-in_err-lower-clause-lowered
-returns-in_err-lower-clause-lowered g c = λ honest. none_done _ c.from_residual-in_err-lower.result c.from_residual-in_err-lower.ensures.0
-
-pub returns-clause-stuck : goal.returns-clause-stuck
-returns-clause-stuck g c = λ honest is. absurd (done_consistent _ is)
-
 pub returns-in_err-predecessor-clause-takes : goal.returns-in_err-predecessor-clause-takes
 returns-in_err-predecessor-clause-takes g c = λ honest.
     let count = ap (λ (k : Counts). k.known) (g.met.T.Table.counts_are c.args.table.now honest) in
@@ -88,28 +74,6 @@ returns-clause-takes g c = λ honest.
     (edges_to (g.T.Table.stored c.args.table.now) c.args.number (bound_of c.loop-predecessor.after) _
     (omega (arith, count, c.loop-predecessor.invariant.within)))
 
-pub returns-in_err-predecessor-clause-ok : goal.returns-in_err-predecessor-clause-ok
-returns-in_err-predecessor-clause-ok g c = none_done _ c.from_residual.result c.from_residual.ensures.0
-
-pub returns-in_err-predecessor-clause-err : goal.returns-in_err-predecessor-clause-err
-returns-in_err-predecessor-clause-err g c =
-    passed_on _ c.from_residual.result _ c.from_residual.ensures
-    (given_up_since g.met.T.Table.goes_on_then g.met.T.Table.fails_since c.loop-predecessor.invariant.written.ahead
-    (is_failed c.in_err-predecessor.ensures.fault))
-
-pub returns-in_err-lower-clause-ok : goal.returns-in_err-lower-clause-ok
-returns-in_err-lower-clause-ok g c = none_done _ c.from_residual-in_err-lower.result c.from_residual-in_err-lower.ensures.0
-
-pub returns-in_err-lower-clause-err : goal.returns-in_err-lower-clause-err
-returns-in_err-lower-clause-err g c =
-    passed_on _ c.from_residual-in_err-lower.result _ c.from_residual-in_err-lower.ensures
-    (given_up_since g.met.T.Table.goes_on_then g.met.T.Table.fails_since (g.met.T.Table.goes_on_then _ _ _ c.loop-predecessor.invariant.written.ahead
-    (g.met.T.Table.stays_goes_on _ _ c.in_ok-predecessor.ensures.read.stays)) c.in_err-lower.ensures.err)
-
 pub returns-clause-ok : goal.returns-clause-ok
 returns-clause-ok g c =
-    written_then g.met.T.Table.goes_on_then c.loop-predecessor.invariant.written
-    (as_written g.met.T.Table.stays_goes_on c.in_ok-predecessor.ensures.read)
-
-pub returns-clause-err : goal.returns-clause-err
-returns-clause-err g c = tt
+    written_then g.met.T.Table.goes_on_then c.loop-predecessor.invariant.written (as_written g.met.T.Table.stays_goes_on c.in_ok-predecessor.ensures.read)

@@ -1,5 +1,5 @@
 use Rattle.std.proofs.Common.{◌≡◌, ◌+◌, ◌*◌, ◌-◌, ◌≤◌}
-use Rattle.retrograde.specs.aid.Processing.{lowered_below}
+use Rattle.retrograde.specs.lemmas.ProcessSteps.{lowered_below}
 use Rattle.table.specs.Frames.{IsWritten}
 use Rattle.table.specs.declared.limits.TheConstants.{PAGES_PER_ENTRY}
 use Rattle.frontier.specs.Entries.{edges_below}

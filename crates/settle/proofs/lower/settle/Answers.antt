@@ -1,36 +1,14 @@
 use Rattle.std.proofs.Common.{◌∙◌, ap, arith, ℕ, List}
 use Rattle.retrograde.specs.Stored.{Stored}
 use Rattle.retrograde.specs.Changes.{with_record}
-use Rattle.frontier.proofs.Passing.{passed_on}
-use Rattle.frontier.proofs.Faults.{none_done, no_conflict, done_consistent}
 use Rattle.table.proofs.Frames.{written_then}
-use Rattle.frontier.proofs.Frames.{is_failed, in_conflict, given_up_since}
+use Rattle.frontier.proofs.Frames.{in_conflict}
 use Rattle.settle.proofs.lower.settle.Goals as goal
-
-pub returns-then-counts-clause-settled : goal.returns-then-counts-clause-settled
-returns-then-counts-clause-settled g c = λ honest. tt
-
-pub returns-in_err-push_settled-clause-settled : goal.returns-in_err-push_settled-clause-settled
-returns-in_err-push_settled-clause-settled g c = λ honest. none_done _ c.from_residual.result c.from_residual.ensures.0
-
-pub returns-in_err-push_settled-clause-full : goal.returns-in_err-push_settled-clause-full
-returns-in_err-push_settled-clause-full g c = λ honest is. absurd (no_conflict c.from_residual.result _ c.from_residual.ensures is)
-
-pub returns-in_err-set_record-clause-settled : goal.returns-in_err-set_record-clause-settled
-returns-in_err-set_record-clause-settled g c =
-    λ honest. none_done _ c.from_residual-in_err-set_record.result c.from_residual-in_err-set_record.ensures.0
-
-pub returns-in_err-set_record-clause-full : goal.returns-in_err-set_record-clause-full
-returns-in_err-set_record-clause-full g c =
-    λ honest is. absurd (no_conflict c.from_residual-in_err-set_record.result _ c.from_residual-in_err-set_record.ensures is)
 
 pub returns-clause-settled : goal.returns-clause-settled
 returns-clause-settled g c = λ honest.
     c.in_ok-set_record.ensures.set (c.in_ok-push_settled.ensures.wrote.honest.0 honest)
     ∙ ap (λ (t : Stored (List ℕ)). with_record t c.args.number c.args.kept) (c.in_ok-push_settled.ensures.pushed honest)
-
-pub returns-clause-full : goal.returns-clause-full
-returns-clause-full g c = λ honest is. absurd (done_consistent _ is)
 
 pub returns-in_err-push_settled-clause-takes : goal.returns-in_err-push_settled-clause-takes
 returns-in_err-push_settled-clause-takes g c = omega (arith, c.in_err-push_settled.ensures.takes)
@@ -44,32 +22,8 @@ returns-clause-takes g c = omega (arith, c.in_ok-push_settled.ensures.takes, c.i
 pub returns-then-counts-clause-takes : goal.returns-then-counts-clause-takes
 returns-then-counts-clause-takes g c = omega arith
 
-pub returns-then-counts-clause-ok : goal.returns-then-counts-clause-ok
-returns-then-counts-clause-ok g c = tt
-
 pub returns-then-counts-clause-err : goal.returns-then-counts-clause-err
 returns-then-counts-clause-err g c = in_conflict (g.met.T.Table.stays_goes_on _ _ (g.met.T.Table.stays_here _))
 
-pub returns-in_err-push_settled-clause-ok : goal.returns-in_err-push_settled-clause-ok
-returns-in_err-push_settled-clause-ok g c = none_done _ c.from_residual.result c.from_residual.ensures.0
-
-pub returns-in_err-push_settled-clause-err : goal.returns-in_err-push_settled-clause-err
-returns-in_err-push_settled-clause-err g c =
-    passed_on _ c.from_residual.result _ c.from_residual.ensures (is_failed c.in_err-push_settled.ensures.fault)
-
-pub returns-in_err-set_record-clause-ok : goal.returns-in_err-set_record-clause-ok
-returns-in_err-set_record-clause-ok g c = none_done _ c.from_residual-in_err-set_record.result c.from_residual-in_err-set_record.ensures.0
-
-pub returns-in_err-set_record-clause-err : goal.returns-in_err-set_record-clause-err
-returns-in_err-set_record-clause-err g c =
-    passed_on _ c.from_residual-in_err-set_record.result _ c.from_residual-in_err-set_record.ensures
-    (given_up_since g.met.T.Table.goes_on_then g.met.T.Table.fails_since c.in_ok-push_settled.ensures.wrote.ahead (is_failed c.in_err-set_record.ensures.fault))
-
 pub returns-clause-ok : goal.returns-clause-ok
-returns-clause-ok g c =
-    written_then g.met.T.Table.goes_on_then
-    c.in_ok-push_settled.ensures.wrote
-    c.in_ok-set_record.ensures.wrote
-
-pub returns-clause-err : goal.returns-clause-err
-returns-clause-err g c = tt
+returns-clause-ok g c = written_then g.met.T.Table.goes_on_then c.in_ok-push_settled.ensures.wrote c.in_ok-set_record.ensures.wrote

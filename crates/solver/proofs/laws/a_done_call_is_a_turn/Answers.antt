@@ -1,5 +1,5 @@
-use Rattle.solver.proofs.Turning.{done_turn}
-use Rattle.solver.proofs.Refusing.{apart}
+use Rattle.solver.proofs.Turns.{done_turn}
+use Rattle.solver.proofs.Refusals.{apart}
 use Rattle.solver.proofs.laws.a_done_call_is_a_turn.Goals as goal
 
 pub returns : goal.returns

@@ -1,4 +1,4 @@
-use Rattle.solver.proofs.Turning.{refused_turn}
+use Rattle.solver.proofs.Turns.{refused_turn}
 use Rattle.solver.proofs.laws.a_refused_call_is_a_turn.Goals as goal
 
 pub returns : goal.returns

@@ -1,4 +1,4 @@
-use Rattle.solver.specs.aid.Laws.{a_sound_table_is_held}
+use Rattle.solver.specs.lemmas.Laws.{a_sound_table_is_held}
 use Rattle.solver.proofs.laws.a_sound_table_is_held.Goals as goal
 
 pub returns : goal.returns

@@ -1,4 +1,4 @@
-use Rattle.solver.specs.aid.Laws.{a_sound_table_is_right}
+use Rattle.solver.specs.lemmas.Laws.{a_sound_table_is_right}
 use Rattle.solver.proofs.laws.a_sound_table_is_right.Goals as goal
 
 pub returns : goal.returns

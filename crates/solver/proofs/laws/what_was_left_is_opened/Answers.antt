@@ -1,4 +1,4 @@
-use Rattle.solver.specs.aid.Laws.{what_was_left_is_opened}
+use Rattle.solver.specs.lemmas.Laws.{what_was_left_is_opened}
 use Rattle.solver.proofs.laws.what_was_left_is_opened.Goals as goal
 
 pub returns : goal.returns

@@ -1,4 +1,4 @@
-use Rattle.sector_disk.specs.aid.Moments.{still_honest}
+use Rattle.sector_disk.specs.lemmas.Moments.{still_honest}
 use Rattle.solver.proofs.listing_laws.a_listing_lasts.Goals as goal
 
 pub returns : goal.returns

@@ -1,4 +1,4 @@
-use Rattle.table.proofs.Listing.{IsListed}
+use Rattle.table.proofs.OrderMarks.{IsListed}
 use Rattle.table.proofs.fitting.listed.Given as goal
 
 abbrev pub invariant-loop-place : goal.invariant-loop-place

@@ -1,5 +1,5 @@
 use Rattle.std.proofs.Common.{rules, sym, ◌∙◌}
-use Rattle.table.proofs.Listing.{in_some, parts_if}
+use Rattle.table.proofs.OrderMarks.{in_some, parts_if}
 use Rattle.table.proofs.fitting.parts_fit.Goals as goal
 
 pub returns-in-Some : goal.returns-in-Some

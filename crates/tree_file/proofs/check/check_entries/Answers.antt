@@ -1,14 +1,14 @@
 use Rattle.std.proofs.Common.{◌≡◌, ℕ, ◌<◌, inl, inr, length, sym, subst, arith}
 use Rattle.std.specs.Prelude.{slice_index_or}
 use Rattle.std.proofs.lemmas.Bool.{cases_eq}
-use Rattle.page_store.specs.aid.Works.{works_then}
-use Rattle.tree_file.specs.aid.Right.{IsRightNumber, IsRightPlaced, AreRight}
+use Rattle.page_store.specs.lemmas.Frames.{read_then}
+use Rattle.tree_file.specs.lemmas.Right.{IsRightNumber, IsRightPlaced, AreRight}
 use Rattle.tree_file.specs.declared.places.Placed.{Placed}
 use Rattle.tree_file.specs.declared.places.Placed.TheVariants.{Nowhere}
-use Rattle.tree_file.proofs.Making.{right_spell}
-use Rattle.tree_file.proofs.CheckPassing.{passed_on, check_since, plain_check, read_more, told_before}
-use Rattle.tree_file.proofs.Refusing.{not_spelled}
-use Rattle.tree_file.proofs.Taking.{its_place, right_there, right_so}
+use Rattle.tree_file.proofs.MadeTable.{right_spell}
+use Rattle.tree_file.proofs.CheckExits.{passed_on, check_since, plain_check, told_before}
+use Rattle.tree_file.proofs.Refusals.{not_spelled}
+use Rattle.tree_file.proofs.FoundPlaces.{its_place, right_there, right_so}
 use Rattle.tree_file.proofs.check.check_entries.Goals as goal
 
 pub returns-in_err-placed-clause-cause : goal.returns-in_err-placed-clause-cause
@@ -20,16 +20,9 @@ pub loop-number-init : goal.loop-number-init
 loop-number-init g c = record {
   of = c.reader_of-reader.ensures.is;
   reading = c.reader_of-reader.ensures.reading (g.P.Pages.store c.find_places.new.store);
-  read = record { works = c.in_ok-placed.ensures.works; unchanged = c.in_ok-placed.ensures.unchanged };
+  read = c.in_ok-placed.ensures.read;
   numbers = λ honest text entries h i low. absurd (omega (arith, low));
 }
-
-pub returns-in_err-check_number-clause-unchanged : goal.returns-in_err-check_number-clause-unchanged
-returns-in_err-check_number-clause-unchanged g c =
-    (read_more _ _ _ c.loop-number.invariant.read c.in_err-check_number.ensures.works c.in_err-check_number.ensures.unchanged).unchanged
-
-pub returns-in_err-check_number-clause-works : goal.returns-in_err-check_number-clause-works
-returns-in_err-check_number-clause-works g c = works_then c.loop-number.invariant.read.works c.in_err-check_number.ensures.works
 
 pub returns-in_err-check_number-clause-cause : goal.returns-in_err-check_number-clause-cause
 returns-in_err-check_number-clause-cause g c =
@@ -63,7 +56,7 @@ loop-number-preserved g c =
     record {
       of = c.check_number.ensures.of;
       reading = c.in_ok-check_number.ensures.reading;
-      read = read_more _ _ _ c.loop-number.invariant.read c.in_ok-check_number.ensures.works c.in_ok-check_number.ensures.unchanged;
+      read = read_then c.loop-number.invariant.read c.in_ok-check_number.ensures.read;
       numbers = λ honest text entries h i low. elim (cases_eq i number) [
         | inl is ↦
             let at = told_before (λ es. IsRightPlaced slot.sizes es number c.index.result.now) slot old mid
@@ -84,8 +77,8 @@ returns-clause-table g c = λ honest text entries h many.
     } in
     right_spell sizes entries c.requires.limits many right
 
-pub returns-clause-unchanged : goal.returns-clause-unchanged
-returns-clause-unchanged g c = c.loop-number.invariant.read.unchanged
+pub returns-in_err-check_number-clause-read : goal.returns-in_err-check_number-clause-read
+returns-in_err-check_number-clause-read g c = read_then c.loop-number.invariant.read c.in_err-check_number.ensures.read
 
-pub returns-clause-works : goal.returns-clause-works
-returns-clause-works g c = c.loop-number.invariant.read.works
+pub returns-clause-read : goal.returns-clause-read
+returns-clause-read g c = c.loop-number.invariant.read

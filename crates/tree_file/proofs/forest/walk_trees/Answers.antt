@@ -1,6 +1,7 @@
+use Rattle.page_store.specs.lemmas.Frames.{marks_then}
 use Rattle.tree_file.proofs.Forests.{first_fails, second_fails, third_fails, fourth_fails, four_walked}
-use Rattle.tree_file.specs.aid.Marking.{honest_after, only_then}
-use Rattle.tree_file.proofs.ForestPassing.{if_err, on_ok, passed_on}
+use Rattle.tree_file.specs.lemmas.MarkedPages.{honest_after}
+use Rattle.tree_file.proofs.ForestExits.{if_err, on_ok, passed_on}
 use Rattle.tree_file.proofs.forest.walk_trees.Goals as goal
 
 pub returns-in_err-walk_tree-clause-cause : goal.returns-in_err-walk_tree-clause-cause
@@ -16,10 +17,10 @@ returns-in_err-walk_tree-2-clause-cause g c =
     c.walk_tree.ensures.only c.in_ok-walk_tree.ensures.tree c.in_err-walk_tree-2.field-0.0 c.in_err-walk_tree-2.ensures.cause)
 
 pub returns-in_err-walk_tree-2-clause-only : goal.returns-in_err-walk_tree-2-clause-only
-returns-in_err-walk_tree-2-clause-only g c = only_then c.walk_tree.ensures.only c.walk_tree-2.ensures.only
+returns-in_err-walk_tree-2-clause-only g c = marks_then c.walk_tree.ensures.only c.walk_tree-2.ensures.only
 
 pub returns-in_err-walk_tree-3-clause-only : goal.returns-in_err-walk_tree-3-clause-only
-returns-in_err-walk_tree-3-clause-only g c = only_then (only_then c.walk_tree.ensures.only c.walk_tree-2.ensures.only) c.walk_tree-3.ensures.only
+returns-in_err-walk_tree-3-clause-only g c = marks_then (marks_then c.walk_tree.ensures.only c.walk_tree-2.ensures.only) c.walk_tree-3.ensures.only
 
 pub returns-in_err-walk_tree-3-clause-cause : goal.returns-in_err-walk_tree-3-clause-cause
 returns-in_err-walk_tree-3-clause-cause g c =
@@ -37,11 +38,11 @@ returns-clause-trees g c = λ honest.
     c.walk_tree.ensures.only c.walk_tree-2.ensures.only c.walk_tree-3.ensures.only c.walk_tree-4.ensures.only
     c.in_ok-walk_tree.ensures.tree c.in_ok-walk_tree-2.ensures.tree c.in_ok-walk_tree-3.ensures.tree (λ there. four))
     (c.walk_tree-4.ensures.tree
-    (honest_after (only_then (only_then c.walk_tree.ensures.only c.walk_tree-2.ensures.only) c.walk_tree-3.ensures.only) honest))
+    (honest_after (marks_then (marks_then c.walk_tree.ensures.only c.walk_tree-2.ensures.only) c.walk_tree-3.ensures.only) honest))
 
 pub returns-clause-only : goal.returns-clause-only
 returns-clause-only g c =
-    only_then (only_then (only_then c.walk_tree.ensures.only c.walk_tree-2.ensures.only) c.walk_tree-3.ensures.only) c.walk_tree-4.ensures.only
+    marks_then (marks_then (marks_then c.walk_tree.ensures.only c.walk_tree-2.ensures.only) c.walk_tree-3.ensures.only) c.walk_tree-4.ensures.only
 
 pub returns-clause-cause : goal.returns-clause-cause
 returns-clause-cause g c =

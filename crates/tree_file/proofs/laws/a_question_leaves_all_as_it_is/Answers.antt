@@ -1,4 +1,4 @@
-use Rattle.tree_file.specs.aid.Whole.{whole_stays}
+use Rattle.tree_file.specs.lemmas.Whole.{whole_stays}
 use Rattle.tree_file.proofs.laws.a_question_leaves_all_as_it_is.Goals as goal
 
 pub returns : goal.returns

@@ -1,4 +1,4 @@
-use Rattle.tree_file.specs.aid.Whole.{whole_leaves}
+use Rattle.tree_file.specs.lemmas.Whole.{whole_leaves}
 use Rattle.tree_file.proofs.laws.a_stop_leaves_what_is_kept.Goals as goal
 
 pub returns : goal.returns

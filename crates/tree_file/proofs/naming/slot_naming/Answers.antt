@@ -3,8 +3,8 @@ use Rattle.std.proofs.lemmas.Bool.{cases_lt}
 use Rattle.std.proofs.lemmas.List.{get_or_past}
 use Rattle.std.specs.Prelude.{slice_index}
 use Rattle.game_file.specs.Fields.{capacity_in}
-use Rattle.game_file.specs.aid.Goals.{goal_is}
-use Rattle.game_file.specs.aid.Words.{word_same, word_zero}
+use Rattle.game_file.specs.lemmas.Goals.{goal_is}
+use Rattle.game_file.specs.lemmas.Words.{word_same, word_zero}
 use Rattle.tree_table.specs.declared.slot.TreeSlot.{TreeSlot}
 use Rattle.tree_table.specs.Slot.{IsEmptyTreeSlot}
 use Rattle.tree_file.specs.File.{NamesSlot}

@@ -2,9 +2,9 @@ use Rattle.std.proofs.Common.{◌≡◌, ℕ, List, Some, ◌∙◌, sym, subst}
 use Rattle.std.proofs.lemmas.Option.{same_Some}
 use Rattle.game_file.specs.Bytes.{IsNumber}
 use Rattle.btree.specs.Entries.{find_entry}
-use Rattle.tree_table.specs.Working.{forest_there}
-use Rattle.tree_file.specs.aid.Right.{IsNumberAt}
-use Rattle.tree_file.proofs.CheckPassing.{passed_on, read_plain}
+use Rattle.tree_table.specs.WorkTable.{forest_there}
+use Rattle.tree_file.specs.lemmas.Right.{IsNumberAt}
+use Rattle.tree_file.proofs.CheckExits.{passed_on, read_plain}
 use Rattle.tree_file.proofs.Readers.{absent, there}
 use Rattle.tree_file.proofs.number.number_by.Goals as goal
 
@@ -22,7 +22,8 @@ returns-then-not-branch-clause-cause g c = λ slot tree is honest text entries h
 pub returns-in-Some-clause-number : goal.returns-in-Some-clause-number
 returns-in-Some-clause-number g c = λ slot tree is honest text entries h. record {
   value = c.value.result.now;
-  found = there c.find_key.new.reader c.in_ok-find_key.field-0 c.value.result.now (find_entry (entries tree) c.args.key.now) c.if-not-branch.false c.value.ensures
+  found = there c.find_key.new.reader c.in_ok-find_key.field-0 c.value.result.now
+      (find_entry (entries tree) c.args.key.now) c.if-not-branch.false c.value.ensures
       (c.in_ok-find_key.ensures.found slot tree is honest text entries (forest_there slot text entries (g.P.Pages.store c.args.store.now) h));
   is = c.in-Some.ensures.some;
 }

@@ -1,6 +1,6 @@
 use Rattle.std.proofs.Common.{refl, sym, ◌∙◌, subst}
-use Rattle.tree_file.specs.aid.One.{CountIs, TreeCause}
-use Rattle.tree_file.specs.aid.Told.{IsPastCount}
+use Rattle.tree_file.specs.lemmas.One.{CountIs, TreeCause}
+use Rattle.tree_file.specs.lemmas.Told.{IsPastCount}
 use Rattle.tree_file.proofs.Told.{not_past}
 use Rattle.tree_file.proofs.Walks.{walk_fails, unlike, alike}
 use Rattle.tree_file.proofs.one.walk_counted.Goals as goal

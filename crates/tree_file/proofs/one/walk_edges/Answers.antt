@@ -1,7 +1,7 @@
 use Rattle.std.proofs.Common.{sym, subst, arith}
 use Rattle.tree_table.specs.declared.tree.Tree.TheVariants.{Edges}
-use Rattle.tree_file.specs.aid.One.{EdgesAre, TreeCause}
-use Rattle.tree_file.specs.aid.Told.{AreTallied, IsNoEdge}
+use Rattle.tree_file.specs.lemmas.One.{EdgesAre, TreeCause}
+use Rattle.tree_file.specs.lemmas.Told.{AreTallied, IsNoEdge}
 use Rattle.tree_file.proofs.Told.{edges_are, not_refused, other_many, tally_none, too_high}
 use Rattle.tree_file.proofs.Walks.{walk_fails, unlike, alike}
 use Rattle.tree_file.proofs.one.walk_edges.Goals as goal

@@ -1,6 +1,6 @@
 use Rattle.std.proofs.Common.{◌∙◌, ap, sym}
 use Rattle.game_file.specs.Fields.{layout_in}
-use Rattle.tree_file.proofs.Sealing.{no_root}
+use Rattle.tree_file.proofs.SealedStore.{no_root}
 use Rattle.tree_file.proofs.open.read_root.Goals as goal
 
 pub returns-in_default-clause-cause : goal.returns-in_default-clause-cause

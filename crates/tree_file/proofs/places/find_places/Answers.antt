@@ -1,30 +1,20 @@
 use Rattle.std.proofs.Common.{◌≡◌, ◌∙◌, ℕ, List, sym, subst, arith}
-use Rattle.page_store.specs.aid.Works.{works_refl, works_then}
+use Rattle.page_store.specs.lemmas.Frames.{read_refl, read_then}
 use Rattle.tree_table.specs.declared.tree.Tree.TheVariants.{Order}
 use Rattle.tree_table.specs.Entries.{number_key}
-use Rattle.tree_file.specs.aid.Right.{IsNumberAt, AreRight, AreMarkedByPlaces}
-use Rattle.tree_file.proofs.CheckPassing.{passed_on, check_since, plain_check, read_here, read_more, told_before}
-use Rattle.tree_file.proofs.Taking.{none_placed, placed_more, placed_twice, place_known, place_missing, take_long}
+use Rattle.tree_file.specs.lemmas.Right.{IsNumberAt, AreRight, AreMarkedByPlaces}
+use Rattle.tree_file.proofs.CheckExits.{passed_on, check_since, plain_check, told_before}
+use Rattle.tree_file.proofs.FoundPlaces.{none_placed, placed_more, placed_twice, place_known, place_missing, take_long}
 use Rattle.tree_file.proofs.places.find_places.Goals as goal
-
-pub returns-in_err-placed-clause-works : goal.returns-in_err-placed-clause-works
-returns-in_err-placed-clause-works g c = works_refl (g.P.Pages.store c.args.store.now)
 
 pub loop-place-init : goal.loop-place-init
 loop-place-init g c = record {
   of = c.reader_of-reader.ensures.is;
   reading = c.reader_of-reader.ensures.reading (g.P.Pages.store c.args.store.now);
-  read = read_here (g.P.Pages.store c.args.store.now);
+  read = read_refl (g.P.Pages.store c.args.store.now);
   long = c.in_ok-placed.ensures.long;
   so_far = λ honest text entries h. none_placed c.args.slot.now.sizes entries c.in_ok-placed.placed.items c.in_ok-placed.ensures.none;
 }
-
-pub returns-in_err-number-clause-unchanged : goal.returns-in_err-number-clause-unchanged
-returns-in_err-number-clause-unchanged g c =
-    (read_more _ _ _ c.loop-place.invariant.read c.in_err-number.ensures.works c.in_err-number.ensures.unchanged).unchanged
-
-pub returns-in_err-number-clause-works : goal.returns-in_err-number-clause-works
-returns-in_err-number-clause-works g c = works_then c.loop-place.invariant.read.works c.in_err-number.ensures.works
 
 pub returns-in_err-number-clause-cause : goal.returns-in_err-number-clause-cause
 returns-in_err-number-clause-cause g c =
@@ -39,14 +29,8 @@ returns-in_err-number-clause-cause g c =
     (λ honest text entries h right.
     let (n, at) = place_missing slot.sizes entries c.loop-place.place c.loop-place-test.true right in
     (n, subst (λ (k : List ℕ). IsNumberAt (entries Order) k n) (sym c.number_key.ensures) at))
-    (plain_check (λ entries. (n : ℕ) × IsNumberAt (entries Order) c.number_key.result n) slot mid new _ (c.in_err-number.ensures.cause slot Order c.loop-place.invariant.of)))
-
-pub returns-then-number-counts-clause-unchanged : goal.returns-then-number-counts-clause-unchanged
-returns-then-number-counts-clause-unchanged g c =
-    (read_more _ _ _ c.loop-place.invariant.read c.in_ok-number.ensures.works c.in_ok-number.ensures.unchanged).unchanged
-
-pub returns-then-number-counts-clause-works : goal.returns-then-number-counts-clause-works
-returns-then-number-counts-clause-works g c = works_then c.loop-place.invariant.read.works c.in_ok-number.ensures.works
+    (plain_check (λ entries. (n : ℕ) × IsNumberAt (entries Order) c.number_key.result n) slot mid new _
+    (c.in_err-number.ensures.cause slot Order c.loop-place.invariant.of)))
 
 pub returns-then-number-counts-clause-cause : goal.returns-then-number-counts-clause-cause
 returns-then-number-counts-clause-cause g c = λ honest text entries h right.
@@ -59,13 +43,6 @@ returns-then-number-counts-clause-cause g c = λ honest text entries h right.
     subst (λ (k : List ℕ). IsNumberAt (entries Order) k c.in_ok-number.number) c.number_key.ensures at in
     let low = place_known slot.sizes entries c.loop-place.place c.in_ok-number.number here c.loop-place-test.true right in
     omega (arith, low, c.if-number-counts.true)
-
-pub returns-then-not-is_new-clause-unchanged : goal.returns-then-not-is_new-clause-unchanged
-returns-then-not-is_new-clause-unchanged g c =
-    (read_more _ _ _ c.loop-place.invariant.read c.in_ok-number.ensures.works c.in_ok-number.ensures.unchanged).unchanged
-
-pub returns-then-not-is_new-clause-works : goal.returns-then-not-is_new-clause-works
-returns-then-not-is_new-clause-works g c = works_then c.loop-place.invariant.read.works c.in_ok-number.ensures.works
 
 pub returns-then-not-is_new-clause-cause : goal.returns-then-not-is_new-clause-cause
 returns-then-not-is_new-clause-cause g c = λ honest text entries h right.
@@ -90,7 +67,7 @@ loop-place-preserved g c =
     record {
       of = c.number_by.ensures.of slot Order c.loop-place.invariant.of;
       reading = c.in_ok-number.ensures.reading;
-      read = read_more _ _ _ c.loop-place.invariant.read c.in_ok-number.ensures.works c.in_ok-number.ensures.unchanged;
+      read = read_then c.loop-place.invariant.read c.in_ok-number.ensures.read;
       long =
           take_long c.in_ok-number.number c.placed_at.result c.loop-place.placed.items c.take_place-is_new.new.placed.items c.take_place-is_new.result
           c.take_place-is_new.ensures.free c.take_place-is_new.ensures.taken c.if-not-is_new.false
@@ -112,3 +89,18 @@ returns-clause-places g c = λ honest text entries h.
     let slot = c.args.slot.now in
     let end : c.loop-place.place ≡ slot.sizes.counts.settled = omega (arith, c.loop-place-test.false, c.loop-place.auto.place-end) in
     subst (λ (k : ℕ). AreMarkedByPlaces slot.sizes entries k c.loop-place.placed.items) end (c.loop-place.invariant.so_far honest text entries h)
+
+pub returns-in_err-placed-clause-read : goal.returns-in_err-placed-clause-read
+returns-in_err-placed-clause-read g c = read_refl _
+
+pub returns-in_err-number-clause-read : goal.returns-in_err-number-clause-read
+returns-in_err-number-clause-read g c = read_then c.loop-place.invariant.read c.in_err-number.ensures.read
+
+pub returns-then-number-counts-clause-read : goal.returns-then-number-counts-clause-read
+returns-then-number-counts-clause-read g c = read_then c.loop-place.invariant.read c.in_ok-number.ensures.read
+
+pub returns-then-not-is_new-clause-read : goal.returns-then-not-is_new-clause-read
+returns-then-not-is_new-clause-read g c = read_then c.loop-place.invariant.read c.in_ok-number.ensures.read
+
+pub returns-clause-read : goal.returns-clause-read
+returns-clause-read g c = c.loop-place.invariant.read

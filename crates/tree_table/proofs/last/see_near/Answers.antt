@@ -1,9 +1,20 @@
+use Rattle.std.proofs.Common.{refl}
 use Rattle.tree_table.proofs.last.see_near.Goals as goal
 
-pub returns-in-Some-clause-cell : goal.returns-in-Some-clause-cell
-returns-in-Some-clause-cell g c = λ honest text table h.
-    record { position = c.in_ok-cell_near.ensures.position honest text table h; kept = c.in_ok-cell_near.ensures.kept honest text table h }
+pub returns-in-Some-clause-seen : goal.returns-in-Some-clause-seen
+returns-in-Some-clause-seen g c =
+    let cell = c.in_ok-cell_near.ensures.cell in
+    record {
+      number = refl;
+      cell = λ honest text table h. record { position = cell.position honest text table h; kept = cell.kept honest text table h };
+      long = cell.long;
+    }
 
-pub returns-clause-cell : goal.returns-clause-cell
-returns-clause-cell g c = λ honest text table h.
-    record { position = c.in_ok-cell_near-2.ensures.position honest text table h; kept = c.in_ok-cell_near-2.ensures.kept honest text table h }
+pub returns-clause-seen : goal.returns-clause-seen
+returns-clause-seen g c =
+    let cell = c.in_ok-cell_near-2.ensures.cell in
+    record {
+      number = refl;
+      cell = λ honest text table h. record { position = cell.position honest text table h; kept = cell.kept honest text table h };
+      long = cell.long;
+    }

@@ -1,4 +1,4 @@
-use Rattle.tree_table.specs.aid.OneTable.{a_picture_stores_one_tree_table}
+use Rattle.tree_table.specs.lemmas.OneTable.{a_picture_stores_one_tree_table}
 use Rattle.tree_table.proofs.laws.a_picture_stores_one_table.Goals as goal
 
 pub returns : goal.returns

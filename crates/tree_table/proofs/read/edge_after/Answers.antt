@@ -5,7 +5,7 @@ use Rattle.tree_table.proofs.Faults.{passed_on, read_for}
 use Rattle.btree.specs.Page.{Item}
 use Rattle.btree.specs.Entries.{next_after as next_in}
 use Rattle.tree_table.specs.declared.tree.Tree.TheVariants.{Edges}
-use Rattle.tree_table.specs.aid.Keys.{key_behind}
+use Rattle.tree_table.specs.lemmas.Keys.{key_behind}
 use Rattle.tree_table.proofs.Found.{filled_with, unfilled_entry}
 use Rattle.tree_table.proofs.NextEdges.{no_more, is_edge, of_another, within, next_edge, later}
 use Rattle.tree_table.proofs.read.edge_after.Goals as goal
@@ -13,7 +13,8 @@ use Rattle.tree_table.proofs.read.edge_after.Goals as goal
 pub returns-in_err-more-clause-cause : goal.returns-in_err-more-clause-cause
 returns-in_err-more-clause-cause g c =
     passed_on _ c.from_residual.result _ c.from_residual.ensures
-    (read_for IsNoForest IsNoTable c.args.slot.now (g.P.Pages.store c.args.store.now) (g.P.Pages.store c.entry_after.new.store) _ (λ none honest text table h. none honest text h.entries h.forest) c.in_err-more.ensures.cause)
+    (read_for IsNoForest IsNoTable c.args.slot.now (g.P.Pages.store c.args.store.now) (g.P.Pages.store c.entry_after.new.store) _
+    (λ none honest text table h. none honest text h.entries h.forest) c.in_err-more.ensures.cause)
 
 pub returns-then-not-more-clause-none : goal.returns-then-not-more-clause-none
 returns-then-not-more-clause-none g c = λ honest text table h.

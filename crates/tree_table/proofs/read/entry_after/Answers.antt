@@ -11,6 +11,7 @@ returns-in-Ok-clause-found g c = λ honest text entries h.
 
 pub returns-in-Err-clause-cause : goal.returns-in-Err-clause-cause
 returns-in-Err-clause-cause g c =
-    subst (λ (f : TableFault). ReadCause IsNoForest c.args.slot.now (g.P.Pages.store c.args.store.now) (g.P.Pages.store c.next_into.new.store) f) (sym c.table_fault.ensures)
+    subst (λ (f : TableFault). ReadCause IsNoForest c.args.slot.now (g.P.Pages.store c.args.store.now)
+    (g.P.Pages.store c.next_into.new.store) f) (sym c.table_fault.ensures)
     (read_fails c.args.slot.now (g.P.Pages.store c.args.store.now) (g.P.Pages.store c.next_into.new.store) c.widths_of-widths.result c.args.tree c.root.result _
     c.widths_of-widths.ensures.keys c.widths_of-widths.ensures.values c.root.ensures c.in-Err.ensures.cause)

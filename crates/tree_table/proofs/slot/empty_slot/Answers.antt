@@ -1,7 +1,8 @@
 use Rattle.std.proofs.Common.{◌≡◌, ◌∙◌, ◌≤◌, ◌<◌, ℕ, inr, refl, arith}
 use Rattle.std.specs.Prelude.{slice_index}
-use Rattle.game_file.specs.aid.Goals.{goal_is}
-use Rattle.game_file.specs.aid.Words.{long_same, long_zero, word_zero, zeros}
+use Rattle.game_file.specs.Fields.{layout_in}
+use Rattle.game_file.specs.lemmas.Goals.{goal_is}
+use Rattle.game_file.specs.lemmas.Words.{long_same, long_zero, word_zero, zeros}
 use Rattle.tree_table.proofs.slot.empty_slot.Goals as goal
 
 -- all is zero but the layout and the number of pages
@@ -14,29 +15,22 @@ behind c k low = c.put_word-2.ensures.behind k low ∙ c.put_word.ensures.behind
 first : (c : goal.After-put_word-2) (k : ℕ) → 4 ≤ k → slice_index c.put_word.new.root k ≡ 0
 first c k low = c.put_word.ensures.behind k low ∙ zeros 512 k
 
-pub returns-clause-layout : goal.returns-clause-layout
-returns-clause-layout c = c.put_word-2.ensures.before 0 (omega arith) ∙ c.put_word.ensures.is
+layout : (c : goal.After-put_word-2) → layout_in c.put_word-2.new.root ≡ c.args.layout
+layout c = c.put_word-2.ensures.before 0 (omega arith) ∙ c.put_word.ensures.is
 
-pub returns-clause-pages : goal.returns-clause-pages
-returns-clause-pages c = λ late. c.put_word-2.ensures.is ∙ c.number_of_pages.ensures.said (omega (arith, late, returns-clause-layout c))
-
-pub returns-clause-unsaid : goal.returns-clause-unsaid
-returns-clause-unsaid c = λ early. c.put_word-2.ensures.is ∙ c.number_of_pages.ensures.unsaid early
-
-pub returns-clause-empty : goal.returns-clause-empty
-returns-clause-empty c = record {
-  packing = c.put_word-2.ensures.before 4 (omega arith) ∙ word_zero c.put_word.new.root 4 (first c);
-  fields = λ k low high. before c k (omega (arith, low)) high;
-  goal = goal_is c.put_word-2.new.root 0 (word_zero c.put_word-2.new.root 72 (behind c)) (inr refl);
+pub returns : goal.returns
+returns c = record {
+  layout = layout c;
+  pages = λ late. c.put_word-2.ensures.is ∙ c.number_of_pages.ensures.said (omega (arith, late, layout c));
+  empty = record {
+    packing = c.put_word-2.ensures.before 4 (omega arith) ∙ word_zero c.put_word.new.root 4 (first c);
+    fields = λ k low high. before c k (omega (arith, low)) high;
+    goal = goal_is c.put_word-2.new.root 0 (word_zero c.put_word-2.new.root 72 (behind c)) (inr refl);
+  };
+  commits =
+      long_same c.put_word.new.root c.put_word-2.new.root 8 (λ k low high. c.put_word-2.ensures.ahead k (omega (arith, high)))
+      ∙ long_zero c.put_word.new.root 8 (λ k low. first c k (omega (arith, low)));
+  fields = λ k low high. before c k low high;
+  behind = λ k low high. behind c k low;
+  unsaid = λ early. c.put_word-2.ensures.is ∙ c.number_of_pages.ensures.unsaid early;
 }
-
-pub returns-clause-commits : goal.returns-clause-commits
-returns-clause-commits c =
-    long_same c.put_word.new.root c.put_word-2.new.root 8 (λ k low high. c.put_word-2.ensures.ahead k (omega (arith, high)))
-    ∙ long_zero c.put_word.new.root 8 (λ k low. first c k (omega (arith, low)))
-
-pub returns-clause-fields : goal.returns-clause-fields
-returns-clause-fields c = λ k low high. before c k low high
-
-pub returns-clause-behind : goal.returns-clause-behind
-returns-clause-behind c = λ k low high. behind c k low

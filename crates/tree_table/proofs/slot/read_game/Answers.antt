@@ -1,6 +1,6 @@
 use Rattle.std.proofs.Common.{◌≡◌, ◌∙◌, sym, ap, subst, arith}
 use Rattle.game_file.specs.Fields.{goal_numbered, number_of_packing, packing_in}
-use Rattle.game_file.specs.aid.Packings.{kind_is}
+use Rattle.game_file.specs.lemmas.Packings.{kind_is}
 use Rattle.game_file.specs.Numbers.{AreWithinLimits}
 use Rattle.game_file.specs.declared.sizes.Sizes.{Sizes}
 use Rattle.tree_table.proofs.slot.read_game.Goals as goal
@@ -16,5 +16,11 @@ returns-clause-says c =
         limits = subst (λ (s : Sizes). AreWithinLimits s) c.sizes_in-sizes.ensures (c.are_within_limits.ensures.0 c.if-not-are_within_limits.false);
         some = omega (arith, c.if-sizes-eq0.false, ap (λ (s : Sizes). s.packed) c.sizes_in-sizes.ensures);
       },
-      λ i. record { packing = packing i; goal = c.goal_number-goal.ensures i; first = c.word_at-first.ensures i; sizes = c.sizes_in-sizes.ensures i; roots = c.roots_in-roots.ensures i },
+      λ i. record {
+        packing = packing i;
+        goal = c.goal_number-goal.ensures i;
+        first = c.word_at-first.ensures i;
+        sizes = c.sizes_in-sizes.ensures i;
+        roots = c.roots_in-roots.ensures i;
+      },
     )

@@ -1,7 +1,7 @@
 use Rattle.std.proofs.Common.{[], ◌∷◌, None}
 use Rattle.solver.specs.Machine.{load, work}
 use Rattle.solver.specs.Units.{units_in}
-use Rattle.recover.specs.Brief.{loaded, worked, no_call, a_question, a_command, it_told}
+use Rattle.headline.specs.Brief.{loaded, worked, no_call, a_question, a_command, it_told}
 use Rattle.witness.proofs.again.told_once.Goals as goal
 
 pub returns : goal.returns

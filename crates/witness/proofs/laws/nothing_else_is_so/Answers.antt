@@ -1,4 +1,4 @@
-use Rattle.witness.proofs.Winning.{only_in_two, not_drawn}
+use Rattle.witness.proofs.Win.{only_in_two, not_drawn}
 use Rattle.witness.proofs.laws.nothing_else_is_so.Goals as goal
 
 pub returns-clause-won : goal.returns-clause-won

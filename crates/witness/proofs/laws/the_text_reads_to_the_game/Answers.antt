@@ -1,4 +1,4 @@
-use Rattle.witness.proofs.Reading.{witness_read}
+use Rattle.witness.proofs.TextReads.{witness_read}
 use Rattle.witness.proofs.laws.the_text_reads_to_the_game.Goals as goal
 
 pub returns : goal.returns

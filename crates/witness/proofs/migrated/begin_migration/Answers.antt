@@ -1,5 +1,5 @@
 use Rattle.std.proofs.Common.{inr}
-use Rattle.witness.proofs.Migrating.{begun_so}
+use Rattle.witness.proofs.Migrations.{begun_so}
 use Rattle.witness.proofs.migrated.begin_migration.Goals as goal
 
 pub returns-in-Ok : goal.returns-in-Ok

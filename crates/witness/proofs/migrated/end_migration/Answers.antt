@@ -1,5 +1,5 @@
-use Rattle.recover.specs.aid.Layouts.{our_layouts}
-use Rattle.witness.proofs.Migrating.{goes_on_behind, refused_for}
+use Rattle.recover.specs.lemmas.Layouts.{our_layouts}
+use Rattle.witness.proofs.Migrations.{goes_on_behind, refused_for}
 use Rattle.witness.proofs.migrated.end_migration.Goals as goal
 
 pub migrate-requires : goal.migrate-requires

@@ -2,10 +2,10 @@ use Rattle.std.proofs.Common.{ℕ, sym, subst}
 use Rattle.sector_disk.specs.Disk.{Disk, Grew}
 use Rattle.solver.specs.Solvers.{state}
 use Rattle.witness.specs.Sittings.{IsWantOfRoom}
-use Rattle.witness.specs.aid.Migrations.{IsLeftFinished}
-use Rattle.witness.proofs.Migrating.{created_so, left_so}
-use Rattle.witness.proofs.Telling.{not_made}
-use Rattle.witness.proofs.Wanting.{want_since}
+use Rattle.witness.specs.lemmas.Migrations.{IsLeftFinished}
+use Rattle.witness.proofs.Migrations.{created_so, left_so}
+use Rattle.witness.proofs.Told.{not_made}
+use Rattle.witness.proofs.WantOfRoom.{want_since}
 use Rattle.witness.proofs.migrated.make_finished.Goals as goal
 
 pub finish-finished-requires-clause-table : goal.finish-finished-requires-clause-table

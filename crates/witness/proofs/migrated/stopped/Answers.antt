@@ -1,11 +1,11 @@
 use Rattle.std.proofs.Common.{sym, subst}
 use Rattle.std.specs.Prelude.{IfOk}
-use Rattle.recover.specs.aid.Layouts.{our_layouts}
+use Rattle.recover.specs.lemmas.Layouts.{our_layouts}
 use Rattle.sector_disk.specs.Disk.{MayLeave, counting}
 use Rattle.sector_disk.specs.InMemory.{disk_in}
 use Rattle.sector_disk.specs.declared.memory.MemDisk.{MemDisk}
-use Rattle.witness.specs.aid.Migrations.{IsInMigrations}
-use Rattle.witness.proofs.Migrating.{behind_begun, counted_so, found_all}
+use Rattle.witness.specs.lemmas.Migrations.{IsInMigrations}
+use Rattle.witness.proofs.Migrations.{behind_begun, counted_so, found_all}
 use Rattle.witness.proofs.migrated.stopped.Goals as goal
 
 pub begin_migration-left-requires : goal.begin_migration-left-requires

@@ -1,4 +1,4 @@
-use Rattle.witness.proofs.Migrating.{not_begun}
+use Rattle.witness.proofs.Migrations.{not_begun}
 use Rattle.witness.proofs.migrated.value_after_stopped_migrations.Goals as goal
 
 pub stopped-requires : goal.stopped-requires

@@ -1,4 +1,4 @@
-use Rattle.witness.proofs.Printing.{begun_so, status_zero}
+use Rattle.witness.proofs.Listings.{begun_so, status_zero}
 use Rattle.witness.proofs.printed.begin.Goals as goal
 
 pub returns-clause-begun : goal.returns-clause-begun

@@ -1,4 +1,4 @@
-use Rattle.witness.proofs.Printing.{all_between, some_kept}
+use Rattle.witness.proofs.Listings.{all_between, some_kept}
 use Rattle.witness.proofs.printed.lines_between.Goals as goal
 
 pub returns-clause-go_on : goal.returns-clause-go_on

@@ -1,5 +1,5 @@
-use Rattle.sector_disk.specs.aid.Moments.{still_honest}
-use Rattle.witness.proofs.Printing.{stands_behind, ended_so}
+use Rattle.sector_disk.specs.lemmas.Moments.{still_honest}
+use Rattle.witness.proofs.Listings.{stands_behind, ended_so}
 use Rattle.witness.proofs.printed.print_and_end.Goals as goal
 
 pub returns-clause-ended : goal.returns-clause-ended

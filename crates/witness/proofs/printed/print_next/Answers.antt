@@ -1,4 +1,4 @@
-use Rattle.witness.proofs.Printing.{printed_so, status_zero}
+use Rattle.witness.proofs.Listings.{printed_so, status_zero}
 use Rattle.witness.proofs.printed.print_next.Goals as goal
 
 pub returns-clause-printed : goal.returns-clause-printed

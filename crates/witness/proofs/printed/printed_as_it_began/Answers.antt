@@ -1,8 +1,8 @@
 use Rattle.std.proofs.Common.{ℕ, List, subst}
 use Rattle.std.proofs.lemmas.Result.{IfOk-weaker}
 use Rattle.std.specs.Io.KnownBytes.{Appends}
-use Rattle.sector_disk.specs.aid.Moments.{still_honest}
-use Rattle.witness.proofs.Printing.{as_it_began}
+use Rattle.sector_disk.specs.lemmas.Moments.{still_honest}
+use Rattle.witness.proofs.Listings.{as_it_began}
 use Rattle.witness.proofs.printed.printed_as_it_began.Goals as goal
 
 pub returns-in-Ok : goal.returns-in-Ok
@@ -13,4 +13,4 @@ returns-in-Ok g c = λ ready honest none.
     let (text, it, written) = printed so in
     subst (λ (bs : List ℕ). Appends (g.W.Write.contents c.args.out.now) (g.W.Write.contents c.printed_beside_work.new.out) bs) (as_it_began _ text it)
     written)
-    (c.printed_beside_work.ensures (c.load.ensures.ready ready) (still_honest c.load.ensures.ahead.goes_on honest) _ does.is)
+    (c.printed_beside_work.ensures (c.load.ensures.left.ready ready) (still_honest c.load.ensures.left.ahead.goes_on honest) _ does.is)

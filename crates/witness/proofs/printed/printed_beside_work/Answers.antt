@@ -1,6 +1,6 @@
 use Rattle.std.proofs.lemmas.Result.{IfOk-weaker}
-use Rattle.session_lines.proofs.Appending.{appends_then}
-use Rattle.witness.proofs.Printing.{printed_two, printed_as, is_some, still_stands_there}
+use Rattle.session_lines.proofs.Appends.{appends_then}
+use Rattle.witness.proofs.Listings.{printed_two, printed_as, is_some, still_stands_there}
 use Rattle.witness.proofs.printed.printed_beside_work.Goals as goal
 
 pub returns : goal.returns

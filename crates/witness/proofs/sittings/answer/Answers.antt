@@ -1,6 +1,6 @@
 use Rattle.std.proofs.lemmas.Result.{IfErr-weaker}
 use Rattle.solver.specs.Solvers.{state}
-use Rattle.witness.proofs.Wanting.{want_since}
+use Rattle.witness.proofs.WantOfRoom.{want_since}
 use Rattle.witness.proofs.sittings.answer.Goals as goal
 
 pub returns-clause-fault : goal.returns-clause-fault

@@ -1,7 +1,7 @@
 use Rattle.std.proofs.Common.{sym, subst}
-use Rattle.witness.specs.aid.Sittings.{IsBehindSittings}
+use Rattle.witness.specs.lemmas.Sittings.{IsBehindSittings}
 use Rattle.witness.proofs.Behind.{behind_create}
-use Rattle.witness.proofs.Telling.{not_made}
+use Rattle.witness.proofs.Told.{not_made}
 use Rattle.witness.proofs.sittings.make.Goals as goal
 
 pub returns-in-Ok-clause-made : goal.returns-in-Ok-clause-made

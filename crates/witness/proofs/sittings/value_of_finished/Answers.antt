@@ -1,6 +1,6 @@
 use Rattle.std.proofs.lemmas.Result.{IfOk-weaker, IfErr-weaker}
 use Rattle.solver.specs.Solvers.{state}
-use Rattle.witness.proofs.Telling.{value_is, value_refused}
+use Rattle.witness.proofs.Told.{value_is, value_refused}
 use Rattle.witness.proofs.sittings.value_of_finished.Goals as goal
 
 pub returns-clause-value : goal.returns-clause-value
@@ -10,4 +10,4 @@ returns-clause-value g c =
 pub returns-clause-fault : goal.returns-clause-fault
 returns-clause-fault g c =
     IfErr-weaker c.value.result _ _ (λ why cause. value_refused g.F.GameFile.stores _ (state c.value.new.self) why c.requires.table cause)
-    (c.value.ensures.cause c.requires.ready)
+    (c.value.ensures.err.cause c.requires.ready)

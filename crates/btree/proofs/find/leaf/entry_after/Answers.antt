@@ -1,6 +1,6 @@
 use Rattle.std.proofs.Common.{drop, arith}
 use Rattle.btree.specs.Page.{count_in}
-use Rattle.btree.proofs.Leaves.{leaf_after, leaf_ends}
+use Rattle.btree.proofs.finds.Leaves.{leaf_after, leaf_ends}
 use Rattle.btree.proofs.find.leaf.entry_after.Goals as goal
 
 pub returns-then-place-count_of : goal.returns-then-place-count_of

@@ -1,6 +1,6 @@
 use Rattle.std.proofs.lemmas.Bool.Decides.{Decides-eqb}
 use Rattle.std.proofs.lemmas.Slice.Eq.{slice_eq-Decides}
-use Rattle.btree.proofs.Leaves.{leaf_begins, leaf_has, leaf_lacks}
+use Rattle.btree.proofs.finds.Leaves.{leaf_begins, leaf_has, leaf_lacks}
 use Rattle.btree.proofs.find.leaf.value_in.Goals as goal
 
 pub returns-then-place-eq0 : goal.returns-then-place-eq0

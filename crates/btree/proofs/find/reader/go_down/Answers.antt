@@ -2,19 +2,13 @@ use Rattle.std.proofs.Common.{subst}
 use Rattle.btree.specs.declared.page.kind.Kind.{Kind}
 use Rattle.btree.specs.Page.{IsPage}
 use Rattle.btree.specs.Answers.{found_bytes}
-use Rattle.btree.proofs.FindPassing.{passed_on}
-use Rattle.btree.proofs.Going.{sets_out, went_unchanged, went_works, unseen, too_far}
-use Rattle.btree.proofs.Reading.{as_seen, leads_down, leaf_for, no_page}
+use Rattle.btree.proofs.finds.Exits.{passed_on}
+use Rattle.btree.proofs.finds.ValueDescent.{sets_out, went_read, unseen, too_far}
+use Rattle.btree.proofs.finds.LastLeaf.{as_seen, leads_down, leaf_for, no_page}
 use Rattle.btree.proofs.find.reader.go_down.Goals as goal
 
 pub loop-init : goal.loop-init
 loop-init g c = sets_out c.args.widths (g.P.Pages.store c.args.store.now) c.args.root c.args.key.now c.requires
-
-pub returns-in_err-read_page-clause-unchanged : goal.returns-in_err-read_page-clause-unchanged
-returns-in_err-read_page-clause-unchanged g c = went_unchanged _ _ _ _ _ _ _ _ c.loop.invariant c.in_err-read_page.ensures.unchanged c.in_err-read_page.ensures.works
-
-pub returns-in_err-read_page-clause-works : goal.returns-in_err-read_page-clause-works
-returns-in_err-read_page-clause-works g c = went_works _ _ _ _ _ _ _ _ c.loop.invariant c.in_err-read_page.ensures.unchanged c.in_err-read_page.ensures.works
 
 pub returns-in_err-read_page-clause-cause : goal.returns-in_err-read_page-clause-cause
 returns-in_err-read_page-clause-cause g c =
@@ -22,29 +16,18 @@ returns-in_err-read_page-clause-cause g c =
     (unseen _ _ _ (g.P.Pages.store c.read_page.new.self) _ _ _ _ c.loop.invariant c.in_err-read_page.ensures.unchanged c.in_err-read_page.ensures.works _
     (as_seen c.args.widths (g.P.Pages.store c.loop.store) (g.P.Pages.store c.read_page.new.self) c.loop.page _ c.in_err-read_page.ensures.cause))
 
-pub returns-in-None-clause-unchanged : goal.returns-in-None-clause-unchanged
-returns-in-None-clause-unchanged g c = went_unchanged _ _ _ _ _ _ _ _ c.loop.invariant c.in_ok-read_page.ensures.unchanged c.in_ok-read_page.ensures.works
-
-pub returns-in-None-clause-works : goal.returns-in-None-clause-works
-returns-in-None-clause-works g c = went_works _ _ _ _ _ _ _ _ c.loop.invariant c.in_ok-read_page.ensures.unchanged c.in_ok-read_page.ensures.works
-
 pub returns-in-None-clause-cause : goal.returns-in-None-clause-cause
 returns-in-None-clause-cause g c =
     no_page _ _ _ (g.P.Pages.store c.read_page.new.self) _ _ _ _ c.loop.invariant c.in_ok-read_page.ensures.unchanged c.in_ok-read_page.ensures.works c.read_page.new.into c.in_ok-read_page.ensures.bytes c.in-None.ensures.none
 
 pub returns-in-Some-Leaf-clause-page : goal.returns-in-Some-Leaf-clause-page
-returns-in-Some-Leaf-clause-page g c = subst (λ (kind : Kind). IsPage c.args.widths kind c.read_page.new.into) c.in-Some-Leaf.field-0-is c.in-Some-Leaf.ensures.some
+returns-in-Some-Leaf-clause-page g c = subst
+    (λ (kind : Kind). IsPage c.args.widths kind c.read_page.new.into) c.in-Some-Leaf.field-0-is c.in-Some-Leaf.ensures.some
 
 pub returns-in-Some-Leaf-clause-belongs : goal.returns-in-Some-Leaf-clause-belongs
 returns-in-Some-Leaf-clause-belongs g c =
     leaf_for _ _ _ (g.P.Pages.store c.read_page.new.self) _ _ _ _ c.loop.invariant c.in_ok-read_page.ensures.unchanged c.in_ok-read_page.ensures.works c.read_page.new.into c.in_ok-read_page.ensures.bytes
     (subst (λ (kind : Kind). IsPage c.args.widths kind c.read_page.new.into) c.in-Some-Leaf.field-0-is c.in-Some-Leaf.ensures.some)
-
-pub returns-in-Some-Leaf-clause-unchanged : goal.returns-in-Some-Leaf-clause-unchanged
-returns-in-Some-Leaf-clause-unchanged g c = went_unchanged _ _ _ _ _ _ _ _ c.loop.invariant c.in_ok-read_page.ensures.unchanged c.in_ok-read_page.ensures.works
-
-pub returns-in-Some-Leaf-clause-works : goal.returns-in-Some-Leaf-clause-works
-returns-in-Some-Leaf-clause-works g c = went_works _ _ _ _ _ _ _ _ c.loop.invariant c.in_ok-read_page.ensures.unchanged c.in_ok-read_page.ensures.works
 
 pub loop-preserved : goal.loop-preserved
 loop-preserved g c =
@@ -55,3 +38,15 @@ loop-preserved g c =
 
 pub returns-clause-cause : goal.returns-clause-cause
 returns-clause-cause g c = too_far _ _ _ _ _ _ _ c.loop.invariant c.loop-test.false
+
+pub returns-in_err-read_page-clause-read : goal.returns-in_err-read_page-clause-read
+returns-in_err-read_page-clause-read g c = went_read _ _ _ _ _ _ _ _ c.loop.invariant c.in_err-read_page.ensures.unchanged c.in_err-read_page.ensures.works
+
+pub returns-in-None-clause-read : goal.returns-in-None-clause-read
+returns-in-None-clause-read g c = went_read _ _ _ _ _ _ _ _ c.loop.invariant c.in_ok-read_page.ensures.unchanged c.in_ok-read_page.ensures.works
+
+pub returns-in-Some-Leaf-clause-read : goal.returns-in-Some-Leaf-clause-read
+returns-in-Some-Leaf-clause-read g c = went_read _ _ _ _ _ _ _ _ c.loop.invariant c.in_ok-read_page.ensures.unchanged c.in_ok-read_page.ensures.works
+
+pub returns-clause-read : goal.returns-clause-read
+returns-clause-read g c = record { unchanged = c.loop.invariant.unchanged; works = c.loop.invariant.works }

@@ -1,4 +1,4 @@
-use Rattle.btree.proofs.Going.{IsGoing}
+use Rattle.btree.proofs.finds.ValueDescent.{IsGoing}
 use Rattle.btree.proofs.find.reader.go_down.Given as goal
 
 abbrev pub invariant-loop : goal.invariant-loop

@@ -2,8 +2,8 @@ use Rattle.std.proofs.Common.{◌≡◌, List, ℕ, ◌-◌, Some, drop, ◌∙�
 use Rattle.std.specs.List.{slice_get}
 use Rattle.btree.specs.declared.page.kind.Kind.TheVariants.{Leaf}
 use Rattle.btree.specs.Page.{Item, items_in, count_in}
-use Rattle.btree.specs.aid.Items.{item_got, item_of}
-use Rattle.btree.proofs.Leaves.{leaf_begins, leaf_lacks}
+use Rattle.btree.specs.lemmas.Items.{item_got, item_of}
+use Rattle.btree.proofs.finds.Leaves.{leaf_begins, leaf_lacks}
 use Rattle.btree.proofs.find.reader.place_in.Goals as goal
 
 pub returns-then-behind-eq0-clause-none : goal.returns-then-behind-eq0-clause-none

@@ -2,7 +2,7 @@ use Rattle.std.proofs.Common.{ℕ, List, Option, None, ◌≡◌, ◌≤◌, ap,
 use Rattle.std.proofs.lemmas.Option.{slice_get_past}
 use Rattle.std.specs.List.{slice_get}
 use Rattle.std.specs.Option.{option_map}
-use Rattle.btree.specs.aid.Items.{length-items}
+use Rattle.btree.specs.lemmas.Items.{length-items}
 use Rattle.btree.specs.Page.{Item, items_of, count_in}
 use Rattle.btree.proofs.find.way.key_at.Goals as goal
 
@@ -13,4 +13,5 @@ none_there k b count bytes n past =
 
 pub returns-else-place-count_of : goal.returns-else-place-count_of
 returns-else-place-count_of c =
-    none_there c.args.widths.key 4 (count_in c.args.bytes.now) (drop 4 c.args.bytes.now) c.args.place (omega (arith, c.if-place-count_of.false, c.count_of.ensures))
+    none_there c.args.widths.key 4 (count_in c.args.bytes.now) (drop 4 c.args.bytes.now) c.args.place
+    (omega (arith, c.if-place-count_of.false, c.count_of.ensures))

@@ -1,5 +1,5 @@
 use Rattle.btree.specs.Answers.{found_bytes}
-use Rattle.btree.proofs.Reaching.{IsReaching}
+use Rattle.btree.proofs.finds.LeafDescent.{IsReaching}
 use Rattle.btree.proofs.find.way.reach_next.Given as goal
 
 abbrev pub invariant-loop : goal.invariant-loop

@@ -1,7 +1,7 @@
 use Rattle.std.proofs.Common.{◌+◌, ◌*◌, ◌∙◌, ap, drop, take}
 use Rattle.btree.specs.Page.{count_in, behind_of}
-use Rattle.btree.specs.aid.Items.{item_got}
-use Rattle.btree.proofs.PagePlacing.{item_cut}
+use Rattle.btree.specs.lemmas.Items.{item_got}
+use Rattle.btree.proofs.pages.KeyPlaces.{item_cut}
 use Rattle.btree.proofs.page.read.item_at.Goals as goal
 
 pub returns-clause-got : goal.returns-clause-got

@@ -1,9 +1,9 @@
 use Rattle.std.proofs.Common.{◌∙◌, ap, drop, arith, subst, ℕ, sym}
 use Rattle.std.proofs.lemmas.Option.{slice_get_within}
 use Rattle.std.specs.Ordering.{is_gt}
-use Rattle.btree.specs.aid.Items.{length-items}
+use Rattle.btree.specs.lemmas.Items.{length-items}
 use Rattle.btree.specs.Page.{count_in, behind_of, items_in}
-use Rattle.btree.proofs.PagePlacing.{IsNarrowed, none_narrowed, go_right, go_left, go_found, is_place}
+use Rattle.btree.proofs.pages.KeyPlaces.{IsNarrowed, none_narrowed, go_right, go_left, go_found, is_place}
 use Rattle.btree.proofs.page.read.place_of.Goals as goal
 
 pub loop-low-init : goal.loop-low-init
@@ -21,17 +21,20 @@ item_at-requires-clause-within c = omega (arith, c.loop-low.invariant.within, c.
 
 pub loop-low-preserved-in-Greater : goal.loop-low-preserved-in-Greater
 loop-low-preserved-in-Greater c =
-    go_left _ _ _ _ _ _ c.loop-low.invariant c.between-middle.ensures.from c.between-middle.ensures.to (c.item_at.result.0.now, c.item_at.result.1.now) c.item_at.ensures.got
+    go_left _ _ _ _ _ _ c.loop-low.invariant c.between-middle.ensures.from c.between-middle.ensures.to
+    (c.item_at.result.0.now, c.item_at.result.1.now) c.item_at.ensures.got
     (sym c.order_of.ensures ∙ c.in-Greater.is)
 
 pub loop-low-preserved : goal.loop-low-preserved
 loop-low-preserved c =
-    go_right _ _ _ _ _ _ c.loop-low.invariant c.between-middle.ensures.from c.between-middle.ensures.to (c.item_at.result.0.now, c.item_at.result.1.now) c.item_at.ensures.got
+    go_right _ _ _ _ _ _ c.loop-low.invariant c.between-middle.ensures.from c.between-middle.ensures.to
+    (c.item_at.result.0.now, c.item_at.result.1.now) c.item_at.ensures.got
     (ap is_gt (sym c.order_of.ensures ∙ c.in-Less.is))
 
 pub returns-in-Equal-clause-place : goal.returns-in-Equal-clause-place
 returns-in-Equal-clause-place c =
-    is_place _ _ _ _ _ (go_found _ _ _ _ _ _ c.loop-low.invariant c.between-middle.ensures.from c.between-middle.ensures.to (c.item_at.result.0.now, c.item_at.result.1.now) c.item_at.ensures.got
+    is_place _ _ _ _ _ (go_found _ _ _ _ _ _ c.loop-low.invariant c.between-middle.ensures.from c.between-middle.ensures.to
+    (c.item_at.result.0.now, c.item_at.result.1.now) c.item_at.ensures.got
     (sym c.order_of.ensures ∙ c.in-Equal.is)) (omega arith)
 
 pub returns-in-Equal-clause-within : goal.returns-in-Equal-clause-within

@@ -1,6 +1,6 @@
 use Rattle.std.proofs.Common.{◌-◌}
 use Rattle.btree.specs.Page.{count_in, items_in}
-use Rattle.btree.proofs.PagePlacing.{IsNarrowed}
+use Rattle.btree.proofs.pages.KeyPlaces.{IsNarrowed}
 use Rattle.btree.proofs.page.read.place_of.Given as goal
 
 abbrev pub invariant-loop-low : goal.invariant-loop-low

@@ -1,5 +1,5 @@
 use Rattle.std.proofs.Common.{◌≡◌, ℕ, ◌+◌, ◌*◌, ◌/◌, ◌%◌, List, ◌++◌, length, ◌∙◌, arith}
-use Rattle.btree.specs.aid.Items.{items-front}
+use Rattle.btree.specs.lemmas.Items.{items-front}
 use Rattle.btree.specs.Page.{items_of, behind_of}
 use Rattle.btree.proofs.page.write.page_of.Goals as goal
 
@@ -13,4 +13,5 @@ halves n = omega arith
 
 pub returns-clause-items : goal.returns-clause-items
 returns-clause-items c =
-    made c.args.widths.key (behind_of c.args.widths c.args.kind) c.args.count _ _ c.args.items.now _ (halves c.args.count) c.copy_from_slice.ensures.after c.requires.long
+    made c.args.widths.key (behind_of c.args.widths c.args.kind) c.args.count _ _ c.args.items.now _
+    (halves c.args.count) c.copy_from_slice.ensures.after c.requires.long

@@ -4,7 +4,7 @@ use Rattle.std.proofs.lemmas.Slice.Eq.{bytes_eq-Decides}
 use Rattle.std.specs.List.{slice_get}
 use Rattle.btree.specs.declared.page.kind.Kind.TheVariants.{Inner}
 use Rattle.btree.specs.Page.{Item, items_in, items_of}
-use Rattle.btree.proofs.Listing.{one_item}
+use Rattle.btree.proofs.pages.ItemBytes.{one_item}
 use Rattle.btree.proofs.put.items.has_item.Goals as goal
 
 -- an item in the place of itself
@@ -14,7 +14,8 @@ stands_there (x ∷ es) zero e got = let same : e ≡ x = cc in ap (λ (y : Item
 stands_there (x ∷ es) (suc i) e got = ap (λ (ys : List Item). x ∷ ys) (stands_there es i e got)
 
 -- items that are this one item
-are_one : (key n : ℕ) (bytes whole front back k v : List ℕ) → n ≡ 1 → whole ≡ bytes → front ≡ take key whole → back ≡ drop key whole → k ≡ front → v ≡ back → length k ≡ key → length v ≡ 4
+are_one : (key n : ℕ) (bytes whole front back k v : List ℕ) → n ≡ 1 → whole ≡ bytes → front ≡ take key whole → back ≡ drop key whole
+    → k ≡ front → v ≡ back → length k ≡ key → length v ≡ 4
     → items_of key 4 n bytes ≡ (k, v) ∷ []
 are_one key n bytes whole front back k v one same first last is_k is_v long_k long_v =
     (λ i. items_of key 4 (one i) (sym same i))

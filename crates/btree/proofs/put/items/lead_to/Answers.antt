@@ -1,7 +1,7 @@
 use Rattle.std.proofs.Common.{ℕ, List, ◌++◌, ◌∷◌, [], length, ap, ◌∙◌}
 use Rattle.btree.specs.declared.page.kind.Kind.TheVariants.{Inner}
-use Rattle.btree.specs.aid.PutItems.{listed}
-use Rattle.btree.proofs.Listing.{one_more}
+use Rattle.btree.specs.lemmas.PutItems.{listed}
+use Rattle.btree.proofs.pages.ItemBytes.{one_more}
 use Rattle.btree.proofs.put.items.lead_to.Goals as goal
 
 pub returns-clause-listed : goal.returns-clause-listed

@@ -3,8 +3,8 @@ use Rattle.std.proofs.lemmas.List.{length-take}
 use Rattle.btree.specs.declared.page.kind.Kind.{Kind}
 use Rattle.btree.specs.declared.page.widths.Widths.{Widths}
 use Rattle.btree.specs.Page.{behind_of, count_in, item_width}
-use Rattle.btree.proofs.Fitting.{are_within, word, head_word, head_within, width_word, few_items}
-use Rattle.btree.proofs.Listing.{distribute, head_stays, page_listed, page_elsewhere}
+use Rattle.btree.proofs.pages.Room.{are_within, word, head_word, head_within, width_word, few_items}
+use Rattle.btree.proofs.pages.ItemBytes.{distribute, head_stays, page_listed, page_elsewhere}
 use Rattle.btree.proofs.put.items.splice_in.Goals as goal
 
 -- where the items lie that are put in
@@ -33,7 +33,8 @@ part_long : (s n : ℕ) (page : List ℕ) → length page ≡ 4096 → s + n ≤
 part_long s n page long room = omega (arith, long, room, length-drop s page, length-take (s + n - s) (drop s page))
 
 -- the items take no more room than there is
-room_at : (wide from to count n len : ℕ) → to ≤ n → len ≡ count * wide → (from + count + (n - to)) * wide ≤ 4092 → 4 + from * wide + len + (4 + n * wide - (4 + to * wide)) ≤ 4096
+room_at : (wide from to count n len : ℕ) → to ≤ n → len ≡ count * wide → (from + count + (n - to)) * wide ≤ 4092
+    → 4 + from * wide + len + (4 + n * wide - (4 + to * wide)) ≤ 4096
 room_at wide from to count n len within whole room =
     let all = distribute (from + count) (n - to) wide in
     let first = distribute from count wide in
@@ -41,7 +42,8 @@ room_at wide from to count n len within whole room =
     let rest : n * wide ≡ to * wide + (n - to) * wide = ap (λ (m : ℕ). m * wide) sum ∙ distribute to (n - to) wide in
     omega (arith, all, first, rest, whole, room)
 
-room_is : (w : Widths) (kind : Kind) (b from to count n all len : ℕ) → b ≡ behind_of w kind → to ≤ n → all ≡ n → len ≡ count * item_width w kind → (from + count + (n - to)) * item_width w kind ≤ 4092
+room_is : (w : Widths) (kind : Kind) (b from to count n all len : ℕ) → b ≡ behind_of w kind → to ≤ n → all ≡ n
+    → len ≡ count * item_width w kind → (from + count + (n - to)) * item_width w kind ≤ 4092
     → 4 + from * (w.key + b) + len + (4 + all * (w.key + b) - (4 + to * (w.key + b))) ≤ 4096
 room_is w kind b from to count n all len is within same whole room =
     subst (λ (b : ℕ). 4 + from * (w.key + b) + len + (4 + all * (w.key + b) - (4 + to * (w.key + b))) ≤ 4096) (sym is)
@@ -56,42 +58,52 @@ overflow_sub-all c = subst (λ (n : ℕ). c.args.to ≤ n) (sym c.count_of-all.e
 
 pub overflow_mul-start : goal.overflow_mul-start
 overflow_mul-start c =
-    let at = are_within c.args.widths c.args.kind c.behind_of.result c.args.from c.args.to (count_in c.args.page.now) c.count_of-all.result c.behind_of.ensures c.requires.order c.requires.within c.requires.page.fits c.count_of-all.ensures in
+    let at = are_within c.args.widths c.args.kind c.behind_of.result c.args.from c.args.to
+    (count_in c.args.page.now) c.count_of-all.result c.behind_of.ensures c.requires.order c.requires.within c.requires.page.fits c.count_of-all.ensures in
     word (c.args.from * (c.args.widths.key + c.behind_of.result)) at.front
 
 pub overflow_add-start : goal.overflow_add-start
 overflow_add-start c =
-    let at = are_within c.args.widths c.args.kind c.behind_of.result c.args.from c.args.to (count_in c.args.page.now) c.count_of-all.result c.behind_of.ensures c.requires.order c.requires.within c.requires.page.fits c.count_of-all.ensures in
+    let at = are_within c.args.widths c.args.kind c.behind_of.result c.args.from c.args.to
+    (count_in c.args.page.now) c.count_of-all.result c.behind_of.ensures c.requires.order c.requires.within c.requires.page.fits c.count_of-all.ensures in
     head_word (c.args.from * (c.args.widths.key + c.behind_of.result)) at.front
 
 pub overflow_mul-rest : goal.overflow_mul-rest
 overflow_mul-rest c =
-    let at = are_within c.args.widths c.args.kind c.behind_of.result c.args.from c.args.to (count_in c.args.page.now) c.count_of-all.result c.behind_of.ensures c.requires.order c.requires.within c.requires.page.fits c.count_of-all.ensures in
+    let at = are_within c.args.widths c.args.kind c.behind_of.result c.args.from c.args.to
+    (count_in c.args.page.now) c.count_of-all.result c.behind_of.ensures c.requires.order c.requires.within c.requires.page.fits c.count_of-all.ensures in
     word (c.args.to * (c.args.widths.key + c.behind_of.result)) at.upto
 
 pub overflow_add-rest : goal.overflow_add-rest
 overflow_add-rest c =
-    let at = are_within c.args.widths c.args.kind c.behind_of.result c.args.from c.args.to (count_in c.args.page.now) c.count_of-all.result c.behind_of.ensures c.requires.order c.requires.within c.requires.page.fits c.count_of-all.ensures in
+    let at = are_within c.args.widths c.args.kind c.behind_of.result c.args.from c.args.to
+    (count_in c.args.page.now) c.count_of-all.result c.behind_of.ensures c.requires.order c.requires.within c.requires.page.fits c.count_of-all.ensures in
     head_word (c.args.to * (c.args.widths.key + c.behind_of.result)) at.upto
 
 pub overflow_mul-last : goal.overflow_mul-last
 overflow_mul-last c =
-    let at = are_within c.args.widths c.args.kind c.behind_of.result c.args.from c.args.to (count_in c.args.page.now) c.count_of-all.result c.behind_of.ensures c.requires.order c.requires.within c.requires.page.fits c.count_of-all.ensures in
+    let at = are_within c.args.widths c.args.kind c.behind_of.result c.args.from c.args.to
+    (count_in c.args.page.now) c.count_of-all.result c.behind_of.ensures c.requires.order c.requires.within c.requires.page.fits c.count_of-all.ensures in
     word (c.count_of-all.result * (c.args.widths.key + c.behind_of.result)) at.whole
 
 pub overflow_add-last : goal.overflow_add-last
 overflow_add-last c =
-    let at = are_within c.args.widths c.args.kind c.behind_of.result c.args.from c.args.to (count_in c.args.page.now) c.count_of-all.result c.behind_of.ensures c.requires.order c.requires.within c.requires.page.fits c.count_of-all.ensures in
+    let at = are_within c.args.widths c.args.kind c.behind_of.result c.args.from c.args.to
+    (count_in c.args.page.now) c.count_of-all.result c.behind_of.ensures c.requires.order c.requires.within c.requires.page.fits c.count_of-all.ensures in
     head_word (c.count_of-all.result * (c.args.widths.key + c.behind_of.result)) at.whole
 
 pub overflow_add-end : goal.overflow_add-end
 overflow_add-end c =
-    let room = room_is c.args.widths c.args.kind c.behind_of.result c.args.from c.args.to c.args.count (count_in c.args.page.now) c.count_of-all.result (length c.args.bytes.now) c.behind_of.ensures c.requires.within c.count_of-all.ensures c.requires.whole c.requires.room in
+    let room = room_is c.args.widths c.args.kind c.behind_of.result c.args.from c.args.to c.args.count
+    (count_in c.args.page.now) c.count_of-all.result
+    (length c.args.bytes.now) c.behind_of.ensures c.requires.within c.count_of-all.ensures c.requires.whole c.requires.room in
     page_word (4 + c.args.from * (c.args.widths.key + c.behind_of.result) + length c.args.bytes.now) _ room
 
 pub slice_bounds-copy_from_slice-end : goal.slice_bounds-copy_from_slice-end
 slice_bounds-copy_from_slice-end c =
-    let room = room_is c.args.widths c.args.kind c.behind_of.result c.args.from c.args.to c.args.count (count_in c.args.page.now) c.count_of-all.result (length c.args.bytes.now) c.behind_of.ensures c.requires.within c.count_of-all.ensures c.requires.whole c.requires.room in
+    let room = room_is c.args.widths c.args.kind c.behind_of.result c.args.from c.args.to c.args.count
+    (count_in c.args.page.now) c.count_of-all.result
+    (length c.args.bytes.now) c.behind_of.ensures c.requires.within c.count_of-all.ensures c.requires.whole c.requires.room in
     page_there (4 + c.args.from * (c.args.widths.key + c.behind_of.result) + length c.args.bytes.now) _ room
 
 pub slice_bounds-copy_from_slice-start : goal.slice_bounds-copy_from_slice-start
@@ -102,22 +114,29 @@ slice_bounds-copy_from_slice-count c = more (4 + c.args.from * (c.args.widths.ke
 
 pub move_within-requires-clause-room : goal.move_within-requires-clause-room
 move_within-requires-clause-room c =
-    room_is c.args.widths c.args.kind c.behind_of.result c.args.from c.args.to c.args.count (count_in c.args.page.now) c.count_of-all.result (length c.args.bytes.now) c.behind_of.ensures c.requires.within c.count_of-all.ensures c.requires.whole c.requires.room
+    room_is c.args.widths c.args.kind c.behind_of.result c.args.from c.args.to c.args.count (count_in c.args.page.now) c.count_of-all.result
+    (length c.args.bytes.now) c.behind_of.ensures c.requires.within c.count_of-all.ensures c.requires.whole c.requires.room
 
 pub move_within-requires-clause-order : goal.move_within-requires-clause-order
 move_within-requires-clause-order c =
-    let at = are_within c.args.widths c.args.kind c.behind_of.result c.args.from c.args.to (count_in c.args.page.now) c.count_of-all.result c.behind_of.ensures c.requires.order c.requires.within c.requires.page.fits c.count_of-all.ensures in
+    let at = are_within c.args.widths c.args.kind c.behind_of.result c.args.from c.args.to
+    (count_in c.args.page.now) c.count_of-all.result c.behind_of.ensures c.requires.order c.requires.within c.requires.page.fits c.count_of-all.ensures in
     both_behind (c.args.to * (c.args.widths.key + c.behind_of.result)) (c.count_of-all.result * (c.args.widths.key + c.behind_of.result)) at.rest
 
 pub move_within-requires-clause-within : goal.move_within-requires-clause-within
 move_within-requires-clause-within c =
-    let at = are_within c.args.widths c.args.kind c.behind_of.result c.args.from c.args.to (count_in c.args.page.now) c.count_of-all.result c.behind_of.ensures c.requires.order c.requires.within c.requires.page.fits c.count_of-all.ensures in
+    let at = are_within c.args.widths c.args.kind c.behind_of.result c.args.from c.args.to
+    (count_in c.args.page.now) c.count_of-all.result c.behind_of.ensures c.requires.order c.requires.within c.requires.page.fits c.count_of-all.ensures in
     head_within (c.count_of-all.result * (c.args.widths.key + c.behind_of.result)) at.whole
 
 pub copy_from_slice-requires : goal.copy_from_slice-requires
 copy_from_slice-requires c =
-    let room = room_is c.args.widths c.args.kind c.behind_of.result c.args.from c.args.to c.args.count (count_in c.args.page.now) c.count_of-all.result (length c.args.bytes.now) c.behind_of.ensures c.requires.within c.count_of-all.ensures c.requires.whole c.requires.room in
-    part_long (4 + c.args.from * (c.args.widths.key + c.behind_of.result)) (length c.args.bytes.now) c.move_within.new.page c.move_within.array_long (page_there (4 + c.args.from * (c.args.widths.key + c.behind_of.result) + length c.args.bytes.now) _ room)
+    let room = room_is c.args.widths c.args.kind c.behind_of.result c.args.from c.args.to c.args.count
+    (count_in c.args.page.now) c.count_of-all.result
+    (length c.args.bytes.now) c.behind_of.ensures c.requires.within c.count_of-all.ensures c.requires.whole c.requires.room in
+    part_long (4 + c.args.from * (c.args.widths.key + c.behind_of.result))
+    (length c.args.bytes.now) c.move_within.new.page c.move_within.array_long
+    (page_there (4 + c.args.from * (c.args.widths.key + c.behind_of.result) + length c.args.bytes.now) _ room)
 
 pub overflow_add-from : goal.overflow_add-from
 overflow_add-from c =
@@ -138,7 +157,9 @@ pub returns-clause-page : goal.returns-clause-page
 returns-clause-page c =
     let w = c.args.widths in
     let page = c.requires.page in
-    let count : count_in c.set_count.new.bytes ≡ c.args.from + c.args.count + (count_in c.args.page.now - c.args.to) = c.set_count.ensures.count ∙ ap (λ (n : ℕ). c.args.from + c.args.count + (n - c.args.to)) c.count_of-all.ensures in
+    let count : count_in c.set_count.new.bytes ≡ c.args.from + c.args.count +
+    (count_in c.args.page.now - c.args.to) = c.set_count.ensures.count
+    ∙ ap (λ (n : ℕ). c.args.from + c.args.count + (n - c.args.to)) c.count_of-all.ensures in
     let same = head_stays w.key (behind_of w c.args.kind) c.behind_of.result c.args.from c.args.to (count_in c.args.page.now) c.args.count c.count_of-all.result
     c.args.page.now c.move_within.new.page c.copy_from_slice.new.self c.args.bytes.now _ c.behind_of.ensures page.long c.requires.order c.requires.within page.fits c.count_of-all.ensures c.requires.whole c.requires.room
     c.move_within.ensures c.copy_from_slice.ensures.after refl in

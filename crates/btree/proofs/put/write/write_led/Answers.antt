@@ -2,15 +2,15 @@ use Rattle.std.proofs.Common.{◌≡◌, ◌≤◌, ◌<◌, ◌+◌, ◌-◌, �
 use Rattle.std.proofs.lemmas.Result.{IfOk-weaker}
 use Rattle.byteorder.specs.Endian.{big_bytes}
 use Rattle.page_store.specs.Store.{reads}
-use Rattle.page_store.specs.aid.Works.{works_refl}
+use Rattle.page_store.specs.lemmas.Works.{works_refl}
 use Rattle.btree.specs.declared.page.kind.Kind.TheVariants.{Inner}
 use Rattle.btree.specs.Page.{Item, IsPage, count_in, items_in}
 use Rattle.btree.specs.Entries.{first_key}
-use Rattle.btree.specs.aid.Growing.{AreWritten}
-use Rattle.btree.specs.aid.PutItems.{listed}
-use Rattle.btree.proofs.Fitting.{few_items, key_word, key_within, head_first, key_long}
-use Rattle.btree.proofs.PutPlacing.{stays}
-use Rattle.btree.proofs.Writing.{leads_back, first_of, written_one}
+use Rattle.btree.specs.lemmas.Growth.{AreWritten}
+use Rattle.btree.specs.lemmas.PutItems.{listed}
+use Rattle.btree.proofs.pages.Room.{few_items, key_word, key_within, head_first, key_long}
+use Rattle.btree.proofs.puts.Replacements.{stays}
+use Rattle.btree.proofs.puts.WrittenItems.{leads_back, first_of, written_one}
 use Rattle.btree.proofs.put.write.write_led.Goals as goal
 
 -- one item
@@ -96,50 +96,6 @@ pub write_spliced-requires-clause-enough : goal.write_spliced-requires-clause-en
 write_spliced-requires-clause-enough g c =
     two_left c.args.place c.args.items.now.count (count_in c.args.bytes.now) c.requires.some c.requires.form.enough c.requires.within
 
-pub returns-then-has_item-clause-some : goal.returns-then-has_item-clause-some
-returns-then-has_item-clause-some g c =
-    one_is_some c.one_lead.result.count c.one_lead.ensures.count
-
-pub returns-then-has_item-clause-few : goal.returns-then-has_item-clause-few
-returns-then-has_item-clause-few g c =
-    one_is_few c.one_lead.result.count c.one_lead.ensures.count
-
-pub returns-then-has_item-clause-whole : goal.returns-then-has_item-clause-whole
-returns-then-has_item-clause-whole g c =
-    c.one_lead.ensures.whole
-
-pub returns-then-has_item-clause-open : goal.returns-then-has_item-clause-open
-returns-then-has_item-clause-open g c =
-    c.requires.open
-
-pub returns-clause-some : goal.returns-clause-some
-returns-clause-some g c =
-    c.write_spliced.ensures.some
-
-pub returns-clause-few : goal.returns-clause-few
-returns-clause-few g c =
-    c.write_spliced.ensures.few
-
-pub returns-clause-whole : goal.returns-clause-whole
-returns-clause-whole g c =
-    c.write_spliced.ensures.whole
-
-pub returns-clause-open : goal.returns-clause-open
-returns-clause-open g c =
-    c.write_spliced.ensures.open
-
-pub returns-clause-works : goal.returns-clause-works
-returns-clause-works g c =
-    c.write_spliced.ensures.works
-
-pub returns-clause-still : goal.returns-clause-still
-returns-clause-still g c =
-    c.write_spliced.ensures.still
-
-pub returns-clause-cause : goal.returns-clause-cause
-returns-clause-cause g c =
-    c.write_spliced.ensures.cause
-
 pub returns-clause-written : goal.returns-clause-written
 returns-clause-written g c =
     let w = c.args.widths in
@@ -150,9 +106,6 @@ returns-clause-written g c =
     IfOk-weaker c.write_spliced.result (λ tops. AreWritten w Inner c.args.page all (listed w Inner tops.count tops.bytes.items) old new)
     (λ tops. reads old c.args.page ≡ c.args.bytes.now → AreWritten w Inner c.args.page all (listed w Inner tops.count tops.bytes.items) old new)
     (λ tops written same. written) c.write_spliced.ensures.written
-
-pub returns-then-has_item-clause-works : goal.returns-then-has_item-clause-works
-returns-then-has_item-clause-works g c = works_refl (g.P.Pages.store c.args.store.now)
 
 pub returns-then-has_item-clause-written : goal.returns-then-has_item-clause-written
 returns-then-has_item-clause-written g c = λ same.
@@ -176,3 +129,22 @@ returns-then-has_item-clause-written g c = λ same.
     (λ honest. subst (IsPage w Inner) (sym same) c.requires.form)
     (λ honest. ap (items_in w Inner) same ∙ sym are)
     (λ honest p other. refl) refl)
+
+pub returns-then-has_item-clause-tops : goal.returns-then-has_item-clause-tops
+returns-then-has_item-clause-tops g c = record {
+  some = one_is_some c.one_lead.result.count c.one_lead.ensures.count;
+  few = one_is_few c.one_lead.result.count c.one_lead.ensures.count;
+  whole = c.one_lead.ensures.whole;
+}
+
+pub returns-then-has_item-clause-ok : goal.returns-then-has_item-clause-ok
+returns-then-has_item-clause-ok g c = record { works = works_refl (g.P.Pages.store c.args.store.now); «open» = c.requires.open; takes = omega arith }
+
+pub returns-clause-tops : goal.returns-clause-tops
+returns-clause-tops g c = c.write_spliced.ensures.tops
+
+pub returns-clause-ok : goal.returns-clause-ok
+returns-clause-ok g c = c.write_spliced.ensures.ok
+
+pub returns-clause-err : goal.returns-clause-err
+returns-clause-err g c = c.write_spliced.ensures.err

@@ -1,19 +1,20 @@
 use Rattle.std.proofs.Common.{◌≡◌, ◌≤◌, ◌<◌, ◌+◌, ◌-◌, ◌*◌, ◌∙◌, ◌∷◌, ◌++◌, [], ℕ, List, Some, length, take, drop, sym, ap, subst, Fits, w64, arith}
-use Rattle.std.proofs.lemmas.Result.{IfOk-weaker}
 use Rattle.byteorder.specs.Endian.{big_bytes}
-use Rattle.page_store.specs.Store.{Store}
-use Rattle.page_store.specs.aid.Works.{works_then}
+use Rattle.page_store.specs.lemmas.Works.{works_then}
 use Rattle.btree.specs.declared.page.kind.Kind.{Kind}
 use Rattle.btree.specs.declared.page.kind.Kind.TheVariants.{Leaf, Inner}
 use Rattle.btree.specs.declared.page.widths.Widths.{Widths}
 use Rattle.btree.specs.Page.{Item, IsPage, behind_of, count_in, item_width, items_in, items_of, least_of}
 use Rattle.btree.specs.Entries.{first_key}
-use Rattle.btree.specs.aid.Growing.{AreWritten}
-use Rattle.btree.specs.aid.PutItems.{listed}
-use Rattle.btree.proofs.PutFailing.{passed_on, write_fails}
-use Rattle.btree.proofs.Fitting.{width_word, few_items, more_word, total_word, key_word, key_within, head_first, key_long}
-use Rattle.btree.proofs.Listing.{mul-mono, narrow}
-use Rattle.btree.proofs.Writing.{leads_back, first_of, written_one}
+use Rattle.btree.specs.lemmas.Growth.{AreWritten}
+use Rattle.btree.specs.lemmas.PutItems.{listed, AreFewTops}
+use Rattle.page_store.specs.Marks.{free_count}
+use Rattle.page_store.specs.lemmas.Frames.{refused_within}
+use Rattle.btree.proofs.puts.InPlace.{of_both}
+use Rattle.btree.proofs.puts.Faults.{passed_on, not_written, refused_after}
+use Rattle.btree.proofs.pages.Room.{width_word, few_items, more_word, total_word, key_word, key_within, head_first, key_long}
+use Rattle.btree.proofs.pages.ItemBytes.{mul-mono, narrow}
+use Rattle.btree.proofs.puts.WrittenItems.{leads_back, first_of, written_one}
 use Rattle.btree.proofs.put.write.write_spliced.Goals as goal
 
 some : (kind : Kind) (n : ℕ) → least_of kind ≤ n → 1 ≤ n
@@ -66,7 +67,7 @@ returns-clause-written g c =
     let now = c.splice_in-span.new.page in
     let old = g.P.Pages.store c.args.store.now in
     let new = g.P.Pages.store c.write_page.new.self in
-    let first = c.in_ok-first.ensures in
+    let first = c.in_ok-first.ensures.ok in
     let wrote = c.in_ok-write_page.ensures in
     let q = c.in_ok-first.first in
     let few = (g.met.P.Pages.sound c.args.store.now).few in
@@ -74,12 +75,14 @@ returns-clause-written g c =
     let key : List ℕ = take (4 + w.key - 4) (drop 4 now) in
     let amount : 4 + w.key - 4 ≡ w.key = omega arith in
     let top : Item = (key, big_bytes 4 q) in
-    let are : items_in w kind now ≡ list = c.splice_in-span.ensures.items ∙ ap (λ (bs : List ℕ). take c.args.from was ++ (items_of w.key (behind_of w kind) items.count bs ++ drop c.args.to was)) c.deref.ensures.0 in
+    let are : items_in w kind now ≡ list = c.splice_in-span.ensures.items
+    ∙ ap (λ (bs : List ℕ). take c.args.from was ++ (items_of w.key (behind_of w kind) items.count bs ++ drop c.args.to was)) c.deref.ensures.0 in
     subst (λ (tops : List Item). AreWritten w kind c.args.page list tops old new)
     (sym (as_listed w.key c.no_few_items-tops.result.count c.lead_to.new.items.count c.no_few_items-tops.result.bytes.items c.lead_to.new.items.bytes.items key q c.no_few_items-tops.ensures.count c.lead_to.ensures.listed))
     (written_one w kind c.args.page old list q top (g.P.Pages.store c.renewed.new.store) new
     (leads_back q (omega (arith, first.there, few)))
-    (sym (ap first_key are) ∙ first_of w.key (behind_of w kind) (count_in now) (drop 4 now) (some kind (count_in now) c.splice_in-span.ensures.page.enough) ∙ ap (λ (n : ℕ). Some (take n (drop 4 now))) (sym amount))
+    (sym (ap first_key are) ∙ first_of w.key (behind_of w kind) (count_in now) (drop 4 now)
+    (some kind (count_in now) c.splice_in-span.ensures.page.enough) ∙ ap (λ (n : ℕ). Some (take n (drop 4 now))) (sym amount))
     first.place first.works first.is_page first.there (λ honest. subst (IsPage w kind) (sym (wrote.written honest)) c.splice_in-span.ensures.page)
     (λ honest. ap (items_in w kind) (wrote.written honest) ∙ are) wrote.others wrote.marks)
 
@@ -95,7 +98,8 @@ overflow_sub-total g c =
 pub overflow_add-total-2 : goal.overflow_add-total-2
 overflow_add-total-2 g c =
     let few = few_items c.args.widths c.args.kind (count_in c.args.bytes.now) c.requires.form.fits in
-    total_word c.args.from c.args.items.now.count c.args.to (count_in c.args.bytes.now) c.count_of.result c.requires.one_more c.requires.within few c.count_of.ensures
+    total_word c.args.from c.args.items.now.count c.args.to
+    (count_in c.args.bytes.now) c.count_of.result c.requires.one_more c.requires.within few c.count_of.ensures
 
 pub overflow_add-widths : goal.overflow_add-widths
 overflow_add-widths g c =
@@ -104,7 +108,8 @@ overflow_add-widths g c =
 pub overflow_mul-total : goal.overflow_mul-total
 overflow_mul-total g c =
     let few = few_items c.args.widths c.args.kind (count_in c.args.bytes.now) c.requires.form.fits in
-    full_word c.args.widths c.args.kind c.behind_of.result c.args.from c.args.items.now.count c.args.to (count_in c.args.bytes.now) c.count_of.result c.behind_of.ensures c.requires.one_more c.requires.within few c.count_of.ensures
+    full_word c.args.widths c.args.kind c.behind_of.result c.args.from c.args.items.now.count c.args.to
+    (count_in c.args.bytes.now) c.count_of.result c.behind_of.ensures c.requires.one_more c.requires.within few c.count_of.ensures
 
 pub write_split-requires-clause-is_page : goal.write_split-requires-clause-is_page
 write_split-requires-clause-is_page g c =
@@ -140,39 +145,12 @@ write_split-requires-clause-whole g c =
 
 pub write_split-requires-clause-full : goal.write_split-requires-clause-full
 write_split-requires-clause-full g c =
-    subst (λ (n : ℕ). 4092 < n) (as_wide c.args.widths c.args.kind c.behind_of.result c.args.from c.args.items.now.count c.args.to (count_in c.args.bytes.now) c.count_of.result c.behind_of.ensures c.count_of.ensures) c.if-total-widths-gt-ROOM.true
+    subst (λ (n : ℕ). 4092 < n) (as_wide c.args.widths c.args.kind c.behind_of.result c.args.from c.args.items.now.count c.args.to
+    (count_in c.args.bytes.now) c.count_of.result c.behind_of.ensures c.count_of.ensures) c.if-total-widths-gt-ROOM.true
 
 pub returns-then-total-widths-gt-ROOM-clause-written : goal.returns-then-total-widths-gt-ROOM-clause-written
 returns-then-total-widths-gt-ROOM-clause-written g c =
     c.write_split.ensures.written
-
-pub returns-then-total-widths-gt-ROOM-clause-whole : goal.returns-then-total-widths-gt-ROOM-clause-whole
-returns-then-total-widths-gt-ROOM-clause-whole g c =
-    c.write_split.ensures.whole
-
-pub returns-then-total-widths-gt-ROOM-clause-open : goal.returns-then-total-widths-gt-ROOM-clause-open
-returns-then-total-widths-gt-ROOM-clause-open g c =
-    c.write_split.ensures.open
-
-pub returns-then-total-widths-gt-ROOM-clause-works : goal.returns-then-total-widths-gt-ROOM-clause-works
-returns-then-total-widths-gt-ROOM-clause-works g c =
-    c.write_split.ensures.works
-
-pub returns-then-total-widths-gt-ROOM-clause-still : goal.returns-then-total-widths-gt-ROOM-clause-still
-returns-then-total-widths-gt-ROOM-clause-still g c =
-    c.write_split.ensures.still
-
-pub returns-then-total-widths-gt-ROOM-clause-cause : goal.returns-then-total-widths-gt-ROOM-clause-cause
-returns-then-total-widths-gt-ROOM-clause-cause g c =
-    c.write_split.ensures.cause
-
-pub returns-then-total-widths-gt-ROOM-clause-some : goal.returns-then-total-widths-gt-ROOM-clause-some
-returns-then-total-widths-gt-ROOM-clause-some g c =
-    IfOk-weaker c.write_split.result (λ tops. tops.count ≡ 2) (λ tops. 1 ≤ tops.count) (λ tops two. two_is_some tops.count two) c.write_split.ensures.two
-
-pub returns-then-total-widths-gt-ROOM-clause-few : goal.returns-then-total-widths-gt-ROOM-clause-few
-returns-then-total-widths-gt-ROOM-clause-few g c =
-    IfOk-weaker c.write_split.result (λ tops. tops.count ≡ 2) (λ tops. tops.count ≤ 2) (λ tops two. two_is_few tops.count two) c.write_split.ensures.two
 
 pub renewed-requires-clause-is_page : goal.renewed-requires-clause-is_page
 renewed-requires-clause-is_page g c =
@@ -181,18 +159,6 @@ renewed-requires-clause-is_page g c =
 pub renewed-requires-clause-there : goal.renewed-requires-clause-there
 renewed-requires-clause-there g c =
     c.requires.there
-
-pub returns-in_err-first-clause-works : goal.returns-in_err-first-clause-works
-returns-in_err-first-clause-works g c =
-    c.renewed.ensures.works
-
-pub returns-in_err-first-clause-still : goal.returns-in_err-first-clause-still
-returns-in_err-first-clause-still g c =
-    passed_on _ c.from_residual.result _ c.from_residual.ensures (λ other. c.renewed.ensures.closed)
-
-pub returns-in_err-first-clause-cause : goal.returns-in_err-first-clause-cause
-returns-in_err-first-clause-cause g c =
-    passed_on _ c.from_residual.result _ c.from_residual.ensures c.in_err-first.ensures.cause
 
 pub splice_in-span-requires-clause-page : goal.splice_in-span-requires-clause-page
 splice_in-span-requires-clause-page g c =
@@ -220,22 +186,12 @@ splice_in-span-requires-clause-whole g c =
 
 pub splice_in-span-requires-clause-room : goal.splice_in-span-requires-clause-room
 splice_in-span-requires-clause-room g c =
-    subst (λ (n : ℕ). n ≤ 4092) (as_wide c.args.widths c.args.kind c.behind_of.result c.args.from c.args.items.now.count c.args.to (count_in c.args.bytes.now) c.count_of.result c.behind_of.ensures c.count_of.ensures) c.if-total-widths-gt-ROOM.false
+    subst (λ (n : ℕ). n ≤ 4092) (as_wide c.args.widths c.args.kind c.behind_of.result c.args.from c.args.items.now.count c.args.to
+    (count_in c.args.bytes.now) c.count_of.result c.behind_of.ensures c.count_of.ensures) c.if-total-widths-gt-ROOM.false
 
 pub write_page-requires : goal.write_page-requires
 write_page-requires g c =
-    c.in_ok-first.ensures.fresh
-
-pub returns-in_err-write_page-clause-still : goal.returns-in_err-write_page-clause-still
-returns-in_err-write_page-clause-still g c =
-    passed_on _ c.from_residual-in_err-write_page.result _ c.from_residual-in_err-write_page.ensures
-    (λ other. ap (λ (s : Store). s.closed) (c.in_err-write_page.ensures.untouched other) ∙ c.in_ok-first.ensures.closed)
-
-pub returns-in_err-write_page-clause-cause : goal.returns-in_err-write_page-clause-cause
-returns-in_err-write_page-clause-cause g c =
-    let store = g.P.Pages.store in
-    passed_on _ c.from_residual-in_err-write_page.result _ c.from_residual-in_err-write_page.ensures
-    (write_fails (store c.args.store.now) (store c.renewed.new.store) (store c.write_page.new.self) _ c.in_ok-first.ensures.works c.in_ok-first.ensures.closed c.in_err-write_page.ensures.cause)
+    c.in_ok-first.ensures.ok.fresh
 
 pub overflow_add-widths-2 : goal.overflow_add-widths-2
 overflow_add-widths-2 g c =
@@ -265,24 +221,38 @@ pub lead_to-requires-clause-whole : goal.lead_to-requires-clause-whole
 lead_to-requires-clause-whole g c =
     none_whole (item_width c.args.widths Inner) c.no_few_items-tops.result.count c.no_few_items-tops.result.bytes.items c.no_few_items-tops.ensures.count c.no_few_items-tops.ensures.bytes
 
-pub returns-clause-some : goal.returns-clause-some
-returns-clause-some g c =
-    one_is_some c.no_few_items-tops.result.count c.lead_to.new.items.count c.lead_to.ensures.count
+pub returns-then-total-widths-gt-ROOM-clause-tops : goal.returns-then-total-widths-gt-ROOM-clause-tops
+returns-then-total-widths-gt-ROOM-clause-tops g c =
+    of_both (λ tops. tops.count ≡ 2) (λ tops. length tops.bytes.items ≡ tops.count * item_width c.args.widths Inner)
+    (λ tops. AreFewTops c.args.widths tops.count tops.bytes.items) c.write_split.result
+    (λ tops two whole. record { some = two_is_some tops.count two; few = two_is_few tops.count two; whole = whole })
+    c.write_split.ensures.two c.write_split.ensures.whole
 
-pub returns-clause-few : goal.returns-clause-few
-returns-clause-few g c =
-    one_is_few c.no_few_items-tops.result.count c.lead_to.new.items.count c.lead_to.ensures.count c.no_few_items-tops.ensures.count
+pub returns-then-total-widths-gt-ROOM-clause-ok : goal.returns-then-total-widths-gt-ROOM-clause-ok
+returns-then-total-widths-gt-ROOM-clause-ok g c = c.write_split.ensures.ok
 
-pub returns-clause-whole : goal.returns-clause-whole
-returns-clause-whole g c =
-    c.lead_to.ensures.whole
+pub returns-then-total-widths-gt-ROOM-clause-err : goal.returns-then-total-widths-gt-ROOM-clause-err
+returns-then-total-widths-gt-ROOM-clause-err g c = c.write_split.ensures.err
 
-pub returns-clause-open : goal.returns-clause-open
-returns-clause-open g c =
-    c.in_ok-write_page.ensures.open
+pub returns-in_err-first-clause-err : goal.returns-in_err-first-clause-err
+returns-in_err-first-clause-err g c = passed_on _ c.from_residual.result _ c.from_residual.ensures (refused_within c.in_err-first.ensures.err (omega arith))
 
-pub returns-in_err-write_page-clause-works : goal.returns-in_err-write_page-clause-works
-returns-in_err-write_page-clause-works g c = works_then c.in_ok-first.ensures.works c.write_page.ensures.works
+pub returns-in_err-write_page-clause-err : goal.returns-in_err-write_page-clause-err
+returns-in_err-write_page-clause-err g c =
+    let first = c.in_ok-first.ensures.ok in
+    let wrote = c.in_err-write_page.ensures in
+    passed_on _ c.from_residual-in_err-write_page.result _ c.from_residual-in_err-write_page.ensures
+    (refused_after 1 first.works first.closed first.takes (omega arith) (not_written wrote.works wrote.marks wrote.untouched wrote.cause))
 
-pub returns-clause-works : goal.returns-clause-works
-returns-clause-works g c = works_then c.in_ok-first.ensures.works c.write_page.ensures.works
+pub returns-clause-tops : goal.returns-clause-tops
+returns-clause-tops g c = record {
+  some = one_is_some c.no_few_items-tops.result.count c.lead_to.new.items.count c.lead_to.ensures.count;
+  few = one_is_few c.no_few_items-tops.result.count c.lead_to.new.items.count c.lead_to.ensures.count c.no_few_items-tops.ensures.count;
+  whole = c.lead_to.ensures.whole;
+}
+
+pub returns-clause-ok : goal.returns-clause-ok
+returns-clause-ok g c =
+    let first = c.in_ok-first.ensures.ok in
+    let wrote = c.in_ok-write_page.ensures in
+    record { works = works_then first.works wrote.works; «open» = wrote.open; takes = omega (arith, first.takes, ap free_count wrote.marks) }

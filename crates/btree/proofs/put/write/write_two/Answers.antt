@@ -2,18 +2,18 @@ use Rattle.std.proofs.Common.{◌≡◌, ◌≤◌, ◌<◌, ◌+◌, ◌*◌, �
 use Rattle.std.proofs.lemmas.List.{length-take}
 use Rattle.byteorder.specs.Endian.{big_bytes}
 use Rattle.page_store.specs.Marks.{free_count}
-use Rattle.page_store.specs.Store.{Store}
-use Rattle.page_store.specs.aid.Works.{works_then}
+use Rattle.page_store.specs.lemmas.Works.{works_then}
 use Rattle.btree.specs.declared.page.kind.Kind.{Kind}
 use Rattle.btree.specs.declared.page.kind.Kind.TheVariants.{Leaf, Inner}
 use Rattle.btree.specs.declared.page.widths.Widths.{Widths}
 use Rattle.btree.specs.Page.{Item, behind_of, item_width, items_of, least_of}
-use Rattle.btree.specs.aid.Growing.{AreWritten}
-use Rattle.btree.specs.aid.PutItems.{listed, IsCut}
-use Rattle.btree.proofs.PutFailing.{passed_on, none_free, write_fails}
-use Rattle.btree.proofs.Listing.{mul-mono}
-use Rattle.btree.proofs.Writing.{items_parts, leads_back, first_of, rest_is, written_two}
-use Rattle.btree.proofs.FreePages.{new_page_takes_one}
+use Rattle.btree.specs.lemmas.Growth.{AreWritten}
+use Rattle.btree.specs.lemmas.PutItems.{listed, IsCut}
+use Rattle.page_store.specs.lemmas.Frames.{open_still, refused_since, refused_within}
+use Rattle.btree.proofs.puts.Faults.{passed_on, cause_since, none_handed_out, refused_after}
+use Rattle.btree.proofs.pages.ItemBytes.{mul-mono}
+use Rattle.btree.proofs.puts.WrittenItems.{items_parts, leads_back, first_of, rest_is, written_two}
+use Rattle.btree.proofs.puts.FreePages.{one_taken}
 use Rattle.btree.proofs.put.write.write_two.Goals as goal
 
 some : (kind : Kind) (n : ℕ) → least_of kind ≤ n → 1 ≤ n
@@ -30,7 +30,8 @@ cut_long w kind cut b is = ap (λ (b : ℕ). cut * (w.key + b)) is
 cut_fits : (w : Widths) (kind : Kind) (count cut b : ℕ) → b ≡ behind_of w kind → IsCut w kind count cut → Fits w64 (cut * (w.key + b))
 cut_fits w kind count cut b is parts = omega (arith, cut_long w kind cut b is, parts.front_fits)
 
-cut_there : (w : Widths) (kind : Kind) (count cut b : ℕ) (bytes whole : List ℕ) → b ≡ behind_of w kind → IsCut w kind count cut → length bytes ≡ count * item_width w kind → whole ≡ bytes
+cut_there : (w : Widths) (kind : Kind) (count cut b : ℕ) (bytes whole : List ℕ) → b ≡ behind_of w kind → IsCut w kind count cut
+    → length bytes ≡ count * item_width w kind → whole ≡ bytes
     → cut * (w.key + b) ≤ length whole
 cut_there w kind count cut b bytes whole is parts all same =
     let less = mul-mono cut count (item_width w kind) (cut_within w kind count cut parts) in
@@ -58,13 +59,15 @@ pub overflow_sub-items : goal.overflow_sub-items
 overflow_sub-items g c = cut_within c.args.widths c.args.kind c.args.items.now.count c.args.items.now.cut c.requires.cut
 
 pub write_on-requires-clause-whole : goal.write_on-requires-clause-whole
-write_on-requires-clause-whole g c = c.split_at.ensures.front_len ∙ cut_long c.args.widths c.args.kind c.args.items.now.cut c.behind_of.result c.behind_of.ensures
+write_on-requires-clause-whole g c = c.split_at.ensures.front_len
+    ∙ cut_long c.args.widths c.args.kind c.args.items.now.cut c.behind_of.result c.behind_of.ensures
 
 pub lead_to-requires-clause-few : goal.lead_to-requires-clause-few
 lead_to-requires-clause-few g c = none_is_few c.no_few_items-tops.result.count c.no_few_items-tops.ensures.count
 
 pub lead_to-requires-2-clause-few : goal.lead_to-requires-2-clause-few
-lead_to-requires-2-clause-few g c = one_is_few c.no_few_items-tops.result.count c.lead_to.new.items.count c.lead_to.ensures.count c.no_few_items-tops.ensures.count
+lead_to-requires-2-clause-few g c =
+    one_is_few c.no_few_items-tops.result.count c.lead_to.new.items.count c.lead_to.ensures.count c.no_few_items-tops.ensures.count
 
 pub lead_to-requires-2-clause-whole : goal.lead_to-requires-2-clause-whole
 lead_to-requires-2-clause-whole g c = c.lead_to.ensures.whole
@@ -75,67 +78,14 @@ returns-clause-two g c = c.lead_to-2.ensures.count ∙ ap (λ (n : ℕ). n + 1) 
 pub returns-clause-whole : goal.returns-clause-whole
 returns-clause-whole g c = c.lead_to-2.ensures.whole
 
-pub returns-in_err-first-clause-still : goal.returns-in_err-first-clause-still
-returns-in_err-first-clause-still g c = passed_on _ c.from_residual.result _ c.from_residual.ensures (λ other. c.renewed.ensures.closed)
-
-pub returns-in_err-second-clause-still : goal.returns-in_err-second-clause-still
-returns-in_err-second-clause-still g c =
-    passed_on _ c.from_residual-in_err-second.result _ c.from_residual-in_err-second.ensures (λ other. c.in_err-second.ensures.others.closed ∙ c.renewed.ensures.closed)
-
-pub returns-in_err-write_on-clause-still : goal.returns-in_err-write_on-clause-still
-returns-in_err-write_on-clause-still g c =
-    passed_on _ c.from_residual-in_err-write_on.result _ c.from_residual-in_err-write_on.ensures
-    (λ other. c.in_err-write_on.ensures.still other ∙ (c.in_ok-second.ensures.others.closed ∙ c.in_ok-first.ensures.closed))
-
-pub returns-in_err-write_on-2-clause-still : goal.returns-in_err-write_on-2-clause-still
-returns-in_err-write_on-2-clause-still g c =
-    passed_on _ c.from_residual-in_err-write_on-2.result _ c.from_residual-in_err-write_on-2.ensures
-    (λ other. c.in_err-write_on-2.ensures.still other ∙ (c.in_ok-write_on.ensures.open ∙ sym (c.in_ok-first.ensures.works.closed (c.in_ok-second.ensures.works.closed c.in_ok-second.ensures.open))))
-
-pub returns-in_err-first-clause-cause : goal.returns-in_err-first-clause-cause
-returns-in_err-first-clause-cause g c = passed_on _ c.from_residual.result _ c.from_residual.ensures c.in_err-first.ensures.cause
-
-pub returns-in_err-second-clause-cause : goal.returns-in_err-second-clause-cause
-returns-in_err-second-clause-cause g c =
-    let store = g.P.Pages.store in
-    passed_on _ c.from_residual-in_err-second.result _ c.from_residual-in_err-second.ensures
-    (none_free (store c.args.store.now) (store c.renewed.new.store) (store c.new_page.new.self) _ c.in_err-second.ensures.refused c.renewed.ensures.closed c.in_err-second.ensures.cause)
-
-pub returns-in_err-write_on-clause-cause : goal.returns-in_err-write_on-clause-cause
-returns-in_err-write_on-clause-cause g c =
-    let store = g.P.Pages.store in
-    passed_on _ c.from_residual-in_err-write_on.result _ c.from_residual-in_err-write_on.ensures
-    (write_fails (store c.args.store.now) (store c.new_page.new.self) (store c.write_on.new.store) _
-    (works_then c.in_ok-first.ensures.works c.in_ok-second.ensures.works) (c.in_ok-second.ensures.others.closed ∙ c.in_ok-first.ensures.closed)
-    c.in_err-write_on.ensures.cause)
-
-pub returns-in_err-write_on-2-clause-cause : goal.returns-in_err-write_on-2-clause-cause
-returns-in_err-write_on-2-clause-cause g c =
-    let store = g.P.Pages.store in
-    passed_on _ c.from_residual-in_err-write_on-2.result _ c.from_residual-in_err-write_on-2.ensures
-    (write_fails (store c.args.store.now) (store c.write_on.new.store) (store c.write_on-2.new.store) _
-    (works_then (works_then c.in_ok-first.ensures.works c.in_ok-second.ensures.works) c.write_on.ensures.works)
-    (c.in_ok-write_on.ensures.open ∙ sym (c.in_ok-first.ensures.works.closed (c.in_ok-second.ensures.works.closed c.in_ok-second.ensures.open)))
-    c.in_err-write_on-2.ensures.cause)
-
-pub returns-in_err-write_on-clause-works : goal.returns-in_err-write_on-clause-works
-returns-in_err-write_on-clause-works g c = works_then (works_then c.in_ok-first.ensures.works c.in_ok-second.ensures.works) c.write_on.ensures.works
-
-pub returns-in_err-write_on-2-clause-works : goal.returns-in_err-write_on-2-clause-works
-returns-in_err-write_on-2-clause-works g c =
-    works_then (works_then (works_then c.in_ok-first.ensures.works c.in_ok-second.ensures.works) c.write_on.ensures.works) c.write_on-2.ensures.works
-
-pub returns-clause-works : goal.returns-clause-works
-returns-clause-works g c =
-    works_then (works_then (works_then c.in_ok-first.ensures.works c.in_ok-second.ensures.works) c.write_on.ensures.works) c.write_on-2.ensures.works
-
 -- the items are listed, as on one page
 as_listed : (key n m : ℕ) (none first : List ℕ) (k : List ℕ) (q : ℕ) → n ≡ 0 → items_of key 4 m first ≡ items_of key 4 n none ++ (k, big_bytes 4 q) ∷ []
     → items_of key 4 m first ≡ (k, big_bytes 4 q) ∷ []
 as_listed key n m none first k q empty more = more ∙ ap (λ (n : ℕ). items_of key 4 n none ++ (k, big_bytes 4 q) ∷ []) empty
 
 -- the two parts: how long they are
-module _ (w : Widths) (kind : Kind) (count cut b : ℕ) (bytes whole front back : List ℕ) (is : b ≡ behind_of w kind) (all : length bytes ≡ count * item_width w kind) (same : whole ≡ bytes)
+module _ (w : Widths) (kind : Kind) (count cut b : ℕ) (bytes whole front back : List ℕ) (is : b ≡ behind_of w kind)
+    (all : length bytes ≡ count * item_width w kind) (same : whole ≡ bytes)
     (parts : IsCut w kind count cut) (front_len : length front ≡ cut * (w.key + b)) (back_len : length back + cut * (w.key + b) ≡ length whole) where
   abbrev width : ℕ
   width = item_width w kind
@@ -178,7 +128,7 @@ returns-clause-written g c =
     let behind = behind_of w kind in
     let store = g.P.Pages.store in
     let old = store c.args.store.now in
-    let first = c.in_ok-first.ensures in
+    let first = c.in_ok-first.ensures.ok in
     let second = c.in_ok-second.ensures in
     let q = c.in_ok-first.first in
     let r = c.in_ok-second.second in
@@ -191,8 +141,8 @@ returns-clause-written g c =
     let other = items.count - items.cut in
     let top : Item = (take w.key front, big_bytes 4 q) in
     let more : Item = (take w.key back, big_bytes 4 r) in
-    let one = c.in_ok-write_on.ensures in
-    let two = c.in_ok-write_on-2.ensures in
+    let one = c.in_ok-write_on.ensures.ok in
+    let two = c.in_ok-write_on-2.ensures.ok in
     let there_r : r < length (store c.renewed.new.store).marks = second.within in
     let sum : items.count ≡ before + other = let more = some kind other parted.back_enough in omega (arith, more) in
     let parts : listed w kind items.count items.bytes.items ≡ items_of w.key behind before front ++ items_of w.key behind other back =
@@ -202,12 +152,13 @@ returns-clause-written g c =
     ∙ ap (λ (tops : List Item). tops ++ more ∷ [])
     (as_listed w.key c.no_few_items-tops.result.count c.lead_to.new.items.count c.no_few_items-tops.result.bytes.items c.lead_to.new.items.bytes.items (take w.key front) q c.no_few_items-tops.ensures.count c.lead_to.ensures.listed) in
     subst (λ (tops : List Item). AreWritten w kind c.args.page (listed w kind items.count items.bytes.items) tops old (store c.write_on-2.new.store)) (sym list)
-    (written_two w kind c.args.page old (listed w kind items.count items.bytes.items) (items_of w.key behind before front) (items_of w.key behind other back) q r top more
+    (written_two w kind c.args.page old (listed w kind items.count items.bytes.items) (items_of w.key behind before front)
+    (items_of w.key behind other back) q r top more
     (store c.renewed.new.store) (store c.new_page.new.self) (store c.write_on.new.store) (store c.write_on-2.new.store) parts
     (leads_back q (omega (arith, first.there, few))) (leads_back r (omega (arith, there_r, first.works.same_pages, few)))
     (first_of w.key behind before front (some kind before parted.front_enough)) (first_of w.key behind other back (some kind other parted.back_enough))
     first.place first.works first.fresh first.is_page first.there second.free second.ok second.others second.works second.is_page there_r
-    one.page one.items one.others one.marks one.works two.page two.items two.others two.marks)
+    one.form one.items one.others one.marks one.works two.form two.items two.others two.marks)
 
 pub write_on-requires-clause-fits : goal.write_on-requires-clause-fits
 write_on-requires-clause-fits g c =
@@ -265,28 +216,43 @@ lead_to-requires-2-clause-key g c =
 pub write_on-requires-2-clause-enough : goal.write_on-requires-2-clause-enough
 write_on-requires-2-clause-enough g c = c.requires.cut.back_enough
 
-pub returns-in_err-second-clause-takes : goal.returns-in_err-second-clause-takes
-returns-in_err-second-clause-takes g c =
-    let same = ap (λ (s : Store). free_count s.marks) c.in_err-second.ensures.refused in
-    omega (arith, c.renewed.ensures.takes, same)
+pub returns-in_err-first-clause-err : goal.returns-in_err-first-clause-err
+returns-in_err-first-clause-err g c = passed_on _ c.from_residual.result _ c.from_residual.ensures (refused_within c.in_err-first.ensures.err (omega arith))
 
-pub returns-in_err-write_on-clause-takes : goal.returns-in_err-write_on-clause-takes
-returns-in_err-write_on-clause-takes g c =
-    let store = g.P.Pages.store in
-    let got = c.new_page.ensures in
-    let one = new_page_takes_one (store c.renewed.new.store) (store c.new_page.new.self) c.new_page.result got.ok got.free got.within got.refused in
-    omega (arith, c.renewed.ensures.takes, one, ap free_count c.write_on.ensures.marks)
+pub returns-in_err-second-clause-err : goal.returns-in_err-second-clause-err
+returns-in_err-second-clause-err g c =
+    let first = c.in_ok-first.ensures.ok in
+    passed_on _ c.from_residual-in_err-second.result _ c.from_residual-in_err-second.ensures
+    (refused_since 1 first.works first.closed first.takes (omega arith)
+    (cause_since (g.P.Pages.store c.args.store.now) (g.P.Pages.store c.renewed.new.store) (g.P.Pages.store c.new_page.new.self) _ first.works first.closed)
+    (none_handed_out c.in_err-second.ensures.refused c.in_err-second.ensures.cause))
 
-pub returns-in_err-write_on-2-clause-takes : goal.returns-in_err-write_on-2-clause-takes
-returns-in_err-write_on-2-clause-takes g c =
-    let store = g.P.Pages.store in
-    let got = c.new_page.ensures in
-    let one = new_page_takes_one (store c.renewed.new.store) (store c.new_page.new.self) c.new_page.result got.ok got.free got.within got.refused in
-    omega (arith, c.renewed.ensures.takes, one, ap free_count c.write_on.ensures.marks, ap free_count c.write_on-2.ensures.marks)
+pub returns-in_err-write_on-clause-err : goal.returns-in_err-write_on-clause-err
+returns-in_err-write_on-clause-err g c =
+    let first = c.in_ok-first.ensures.ok in
+    let second = c.in_ok-second.ensures in
+    passed_on _ c.from_residual-in_err-write_on.result _ c.from_residual-in_err-write_on.ensures
+    (refused_after 2 (works_then first.works second.works) (second.others.closed ∙ first.closed)
+    (omega (arith, first.takes, one_taken second.ok second.free second.within)) (omega arith) c.in_err-write_on.ensures.err)
 
-pub returns-clause-takes : goal.returns-clause-takes
-returns-clause-takes g c =
-    let store = g.P.Pages.store in
-    let got = c.new_page.ensures in
-    let one = new_page_takes_one (store c.renewed.new.store) (store c.new_page.new.self) c.new_page.result got.ok got.free got.within got.refused in
-    omega (arith, c.renewed.ensures.takes, one, ap free_count c.write_on.ensures.marks, ap free_count c.write_on-2.ensures.marks)
+pub returns-in_err-write_on-2-clause-err : goal.returns-in_err-write_on-2-clause-err
+returns-in_err-write_on-2-clause-err g c =
+    let first = c.in_ok-first.ensures.ok in
+    let second = c.in_ok-second.ensures in
+    let one = c.in_ok-write_on.ensures.ok in
+    let works = works_then (works_then first.works second.works) one.works in
+    passed_on _ c.from_residual-in_err-write_on-2.result _ c.from_residual-in_err-write_on-2.ensures
+    (refused_after 2 works (open_still works one.open)
+    (omega (arith, first.takes, one_taken second.ok second.free second.within, ap free_count one.marks)) (omega arith) c.in_err-write_on-2.ensures.err)
+
+pub returns-clause-ok : goal.returns-clause-ok
+returns-clause-ok g c =
+    let first = c.in_ok-first.ensures.ok in
+    let second = c.in_ok-second.ensures in
+    let one = c.in_ok-write_on.ensures.ok in
+    let two = c.in_ok-write_on-2.ensures.ok in
+    record {
+      works = works_then (works_then (works_then first.works second.works) one.works) two.works;
+      «open» = two.open;
+      takes = omega (arith, first.takes, one_taken second.ok second.free second.within, ap free_count one.marks, ap free_count two.marks);
+    }

@@ -1,4 +1,4 @@
-use Rattle.btree.proofs.Descending.{IsDescending}
+use Rattle.btree.proofs.walks.Depth.{IsDescending}
 use Rattle.btree.proofs.walk.depth.depth_of.Given as goal
 
 abbrev pub invariant-loop-depth : goal.invariant-loop-depth

@@ -1,6 +1,6 @@
 use Rattle.std.proofs.Common.{[], refl, sym, ◌∙◌, subst, append-nil, List}
 use Rattle.btree.specs.Page.{Item}
-use Rattle.btree.proofs.WalkFailing.{on_err}
+use Rattle.btree.proofs.walks.Exits.{on_err}
 use Rattle.btree.proofs.walk.leaf.tell.Goals as goal
 
 pub returns-then-is_err-clause-cause : goal.returns-then-is_err-clause-cause

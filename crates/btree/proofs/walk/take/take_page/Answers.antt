@@ -1,7 +1,8 @@
 use Rattle.std.proofs.Common.{sym, subst}
 use Rattle.page_store.specs.Store.{Store}
-use Rattle.page_store.specs.aid.Marking.{OnlyMarks}
-use Rattle.btree.proofs.Marking.{marks_one, marks_none}
+use Rattle.page_store.specs.Frames.{OnlyMarks}
+use Rattle.page_store.specs.lemmas.Frames.{marks_none}
+use Rattle.btree.proofs.walks.MarkedPages.{marks_one}
 use Rattle.btree.proofs.walk.take.take_page.Goals as goal
 
 pub returns-in-Some-clause-marks : goal.returns-in-Some-clause-marks
@@ -16,7 +17,8 @@ returns-in_default-clause-marks g c =
 
 pub returns-in_err-mark-clause-marks : goal.returns-in_err-mark-clause-marks
 returns-in_err-mark-clause-marks g c =
-    subst (λ (store : Store). OnlyMarks (g.P.Pages.store c.args.store.now) store) (sym c.in_err-mark.ensures.refused) (marks_none (g.P.Pages.store c.args.store.now))
+    subst (λ (store : Store). OnlyMarks (g.P.Pages.store c.args.store.now) store) (sym c.in_err-mark.ensures.refused)
+    (marks_none (g.P.Pages.store c.args.store.now))
 
 pub returns-in_err-read_page-clause-marks : goal.returns-in_err-read_page-clause-marks
 returns-in_err-read_page-clause-marks g c =

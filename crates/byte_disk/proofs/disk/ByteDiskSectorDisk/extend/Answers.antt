@@ -1,6 +1,6 @@
 use Rattle.std.proofs.Common.{rules, arith, ◌≡◌, ℕ, [], ◌∷◌, ◌++◌, length, ◌∙◌, ap}
 use Rattle.sector_disk.specs.declared.log.Event.TheVariants.{Extended}
-use Rattle.sector_disk.specs.aid.Moments.{extends_failed}
+use Rattle.sector_disk.specs.lemmas.Moments.{extends_failed}
 use Rattle.byte_disk.specs.Pasts.{events_of}
 use Rattle.byte_disk.proofs.Kept.{kept_extend, longer}
 use Rattle.byte_disk.proofs.disk.ByteDiskSectorDisk.extend.Goals as goal

@@ -1,5 +1,5 @@
 use Rattle.std.proofs.Common.{arith}
-use Rattle.sector_disk.specs.aid.Moments.{steps_failed}
+use Rattle.sector_disk.specs.lemmas.Moments.{steps_failed}
 use Rattle.byte_disk.proofs.Kept.{kept_sync, all_synced, synced_more}
 use Rattle.byte_disk.proofs.disk.ByteDiskSectorDisk.sync.Goals as goal
 

@@ -1,7 +1,7 @@
 use Rattle.std.proofs.Common.{arith, ◌≡◌}
 use Rattle.std.proofs.lemmas.Grind.{common_steps}
 use Rattle.sector_disk.specs.Disk.{sector}
-use Rattle.sector_disk.specs.aid.Moments.{steps_failed}
+use Rattle.sector_disk.specs.lemmas.Moments.{steps_failed}
 use Rattle.byte_disk.proofs.Kept.{kept_write, changed}
 use Rattle.byte_disk.proofs.disk.ByteDiskSectorDisk.write.Goals as goal
 

@@ -1,8 +1,8 @@
 use Rattle.std.proofs.Common.{List, ℕ, subst, refl, ap, Err}
 use Rattle.earlier_layouts.specs.Spelled.{SpellsTable}
 use Rattle.earlier_layouts.specs.declared.image.fault.BytesFault.{BytesFault}
-use Rattle.table.proofs.Passing.{none_done}
-use Rattle.earlier_layouts.proofs.ImagePassing.{fault_is}
+use Rattle.table.proofs.Exits.{none_done}
+use Rattle.earlier_layouts.proofs.ImageExits.{fault_is}
 use Rattle.earlier_layouts.proofs.Outcomes.{on_ok}
 use Rattle.earlier_layouts.proofs.TableLemmas.{split_table, whole_cells, whole_edges, edges_within, spells}
 use Rattle.earlier_layouts.proofs.image.read.read_into.Goals as goal
@@ -12,14 +12,19 @@ returns-in_err-read_cells-clause-damaged g c = λ is text stored table s.
     let split = split_table c.args.sizes.now c.args.bytes.now c.split_at.result.0.now c.split_at.result.1.now c.split_at-2.result.0.now c.split_at-2.result.1.now c.split_at-3.result.0.now c.split_at-3.result.1.now _ refl
     c.split_at.ensures.front c.split_at.ensures.back c.split_at-2.ensures.front c.split_at-2.ensures.back c.split_at-3.ensures.front c.split_at-3.ensures.back
     c.split_at.ensures.front_len c.split_at-2.ensures.front_len c.split_at-3.ensures.front_len in
-    c.in_err-read_cells.ensures.damaged (ap (λ (f : BytesFault). Err f) (fault_is c.from_residual.result _ c.from_residual.ensures is)) stored table s.known (whole_cells _ _ _ _ _ _ text stored split s)
+    c.in_err-read_cells.ensures.damaged
+    (ap (λ (f : BytesFault). Err f) (fault_is c.from_residual.result _ c.from_residual.ensures is)) stored table s.known
+    (whole_cells _ _ _ _ _ _ text stored split s)
 
 pub returns-in_err-read_edges-clause-damaged : goal.returns-in_err-read_edges-clause-damaged
 returns-in_err-read_edges-clause-damaged g c = λ is text stored table s.
     let split = split_table c.args.sizes.now c.args.bytes.now c.split_at.result.0.now c.split_at.result.1.now c.split_at-2.result.0.now c.split_at-2.result.1.now c.split_at-3.result.0.now c.split_at-3.result.1.now _ refl
     c.split_at.ensures.front c.split_at.ensures.back c.split_at-2.ensures.front c.split_at-2.ensures.back c.split_at-3.ensures.front c.split_at-3.ensures.back
     c.split_at.ensures.front_len c.split_at-2.ensures.front_len c.split_at-3.ensures.front_len in
-    c.in_err-read_edges.ensures.damaged (ap (λ (f : BytesFault). Err f) (fault_is c.from_residual-in_err-read_edges.result _ c.from_residual-in_err-read_edges.ensures is)) s.edges (whole_edges _ _ _ _ _ _ text stored split s) s.edge_count s.ascending
+    c.in_err-read_edges.ensures.damaged
+    (ap (λ (f : BytesFault). Err f)
+    (fault_is c.from_residual-in_err-read_edges.result _ c.from_residual-in_err-read_edges.ensures is)) s.edges
+    (whole_edges _ _ _ _ _ _ text stored split s) s.edge_count s.ascending
     (edges_within _ _ _ _ _ _ text stored split s _ c.in_ok-read_cells.ensures.known table)
 
 pub returns-clause-spelled : goal.returns-clause-spelled

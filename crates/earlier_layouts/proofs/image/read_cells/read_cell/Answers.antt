@@ -1,8 +1,8 @@
 use Rattle.std.proofs.Common.{◌∙◌, ◌≡◌, ap, length, List, Some, slice_get, sym, subst, ℕ, ◌<◌, ◌^◌}
 use Rattle.retrograde.specs.declared.records.Counts.{Counts}
 use Rattle.retrograde.specs.Stored.{Stored}
-use Rattle.table.proofs.Passing.{none_done}
-use Rattle.earlier_layouts.proofs.ImagePassing.{not_damaged, done_whole, one_more, at_most, front_within, rest_long}
+use Rattle.table.proofs.Exits.{none_done}
+use Rattle.earlier_layouts.proofs.ImageExits.{not_damaged, done_whole, one_more, at_most, front_within, rest_long}
 use Rattle.earlier_layouts.proofs.ReadLemmas.{not_read, read_is, not_a_cell, cell_position, known_already, unknown_still}
 use Rattle.earlier_layouts.proofs.CellLemmas.{cell_added}
 use Rattle.earlier_layouts.proofs.Splits.{both_parts}
@@ -24,9 +24,11 @@ returns-clause-added g c =
             read_is c.read_record.result c.ok_or.result _ c.split_at.result.1.now c.ok_or.ensures.value c.in_ok-kept.kept c.in_ok-kept.was c.read_record.ensures.some;
       };
       added =
-          cell_added (g.T.Table.stored c.args.table.now) (g.T.Table.stored c.number_of.new.self) (g.T.Table.stored c.add.new.self) (g.T.Table.stored c.set_record.new.self)
+          cell_added (g.T.Table.stored c.args.table.now) (g.T.Table.stored c.number_of.new.self) (g.T.Table.stored c.add.new.self)
+          (g.T.Table.stored c.set_record.new.self)
           c.position_of-position.result.items c.in_ok-kept.kept c.in_ok-number.number (c.in_ok-number_of.ensures.read.same c.requires.honest)
-          (c.in_ok-number.ensures.added honest) (c.in_ok-set_record.ensures.set (c.in_ok-number.ensures.honest.0 honest)) (c.in_ok-number.ensures.number ∙ known);
+          (c.in_ok-number.ensures.added honest) (c.in_ok-set_record.ensures.set (c.in_ok-number.ensures.honest.0 honest))
+          (c.in_ok-number.ensures.number ∙ known);
     }
 
 pub returns-in_err-kept-clause-honest : goal.returns-in_err-kept-clause-honest
@@ -101,12 +103,15 @@ pub returns-then-is_some-clause-damaged : goal.returns-then-is_some-clause-damag
 returns-then-is_some-clause-damaged g c = λ is x of.
     let same = c.position_of-position.ensures ∙ cell_position c.args.packed c.args.cell.now c.split_at.result.0.now c.split_at.result.1.now c.split_at.ensures.front c.split_at.ensures.back c.split_at.ensures.front_len x of in
     let (j, at) =
-    known_already c.in_ok-number_of.field-0 c.is_some.result (g.T.Table.stored c.args.table.now).positions c.position_of-position.result.items c.is_some.ensures c.if-is_some.true
+    known_already c.in_ok-number_of.field-0 c.is_some.result
+    (g.T.Table.stored c.args.table.now).positions c.position_of-position.result.items c.is_some.ensures c.if-is_some.true
     (c.in_ok-number_of.ensures.found c.requires.honest) in
     (j, at ∙ ap (λ (b : List ℕ). Some b) same)
 
 pub add-requires-clause-unknown : goal.add-requires-clause-unknown
 add-requires-clause-unknown g c = λ h i at.
-    unknown_still c.in_ok-number_of.field-0 c.is_some.result (g.T.Table.stored c.args.table.now).positions c.position_of-position.result.items c.is_some.ensures c.if-is_some.false
+    unknown_still c.in_ok-number_of.field-0 c.is_some.result
+    (g.T.Table.stored c.args.table.now).positions c.position_of-position.result.items c.is_some.ensures c.if-is_some.false
     (c.in_ok-number_of.ensures.unknown c.requires.honest) i
-    (subst (λ (s : Stored (List ℕ)). slice_get s.positions i ≡ Some c.position_of-position.result.items) (c.in_ok-number_of.ensures.read.same c.requires.honest) at)
+    (subst (λ (s : Stored (List ℕ)). slice_get s.positions i ≡ Some c.position_of-position.result.items)
+    (c.in_ok-number_of.ensures.read.same c.requires.honest) at)

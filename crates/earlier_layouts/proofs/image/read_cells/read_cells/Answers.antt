@@ -1,8 +1,8 @@
 use Rattle.std.proofs.Common.{◌++◌, subst, List, ℕ, arith, ap, Err}
-use Rattle.earlier_layouts.specs.aid.ImageReading.{AreCells}
+use Rattle.earlier_layouts.specs.lemmas.ImageReads.{AreCells}
 use Rattle.earlier_layouts.specs.declared.image.fault.BytesFault.{BytesFault}
-use Rattle.table.proofs.Passing.{none_done}
-use Rattle.earlier_layouts.proofs.ImagePassing.{fault_is, done_whole}
+use Rattle.table.proofs.Exits.{none_done}
+use Rattle.earlier_layouts.proofs.ImageExits.{fault_is, done_whole}
 use Rattle.earlier_layouts.proofs.CellLemmas.{cells_more, keeps_rest, rest_then, one_longer, cell_refused, left_after}
 use Rattle.earlier_layouts.proofs.Splits.{split_on, split_between}
 use Rattle.earlier_layouts.proofs.image.read_cells.read_cells.Goals as goal
@@ -15,7 +15,8 @@ returns-in_err-read_cell-clause-damaged g c = λ is all table long whole.
     let parts = split_between c.args.cells.now before.done c.loop-number.rest.now front back _ before.split c.split_at-in-loop-number.ensures.front c.split_at-in-loop-number.ensures.back in
     cell_refused c.args.packed before.done front back (g.T.Table.stored c.loop-number.table) all before.read
     (subst (λ (b : List ℕ). AreCells c.args.packed b all) parts whole) table (omega (arith, before.many, long, c.loop-number-test.true))
-    c.split_at-in-loop-number.ensures.front_len (c.in_err-read_cell.ensures.damaged (ap (λ (f : BytesFault). Err f) (fault_is c.from_residual.result _ c.from_residual.ensures is)))
+    c.split_at-in-loop-number.ensures.front_len
+    (c.in_err-read_cell.ensures.damaged (ap (λ (f : BytesFault). Err f) (fault_is c.from_residual.result _ c.from_residual.ensures is)))
 
 pub loop-number-preserved : goal.loop-number-preserved
 loop-number-preserved g c =

@@ -1,5 +1,5 @@
 use Rattle.std.proofs.Common.{◌≡◌, ◌-◌, ◌*◌, ◌+◌, ℕ, List, ◌++◌, length}
-use Rattle.earlier_layouts.specs.aid.ImageReading.{AreCells, KeepsRest}
+use Rattle.earlier_layouts.specs.lemmas.ImageReads.{AreCells, KeepsRest}
 use Rattle.earlier_layouts.proofs.image.read_cells.read_cells.Given as goal
 
 abbrev pub invariant-loop-number : goal.invariant-loop-number

@@ -2,8 +2,8 @@ use Rattle.std.proofs.Common.{List, ℕ, subst, arith, ◌∙◌, ap, length}
 use Rattle.game_file.specs.Bytes.{IsRecord}
 use Rattle.retrograde.specs.declared.records.Counts.{Counts}
 use Rattle.retrograde.specs.Stored.{Stored}
-use Rattle.table.proofs.Passing.{none_done}
-use Rattle.earlier_layouts.proofs.ImagePassing.{not_damaged, done_whole, not_none, front_within, rest_long}
+use Rattle.table.proofs.Exits.{none_done}
+use Rattle.earlier_layouts.proofs.ImageExits.{not_damaged, done_whole, not_none, front_within, rest_long}
 use Rattle.earlier_layouts.proofs.ReadLemmas.{not_read, read_is, not_a_cell}
 use Rattle.earlier_layouts.proofs.CellLemmas.{first_cell}
 use Rattle.earlier_layouts.proofs.image.read_cells.read_first_record.Goals as goal

@@ -2,8 +2,8 @@ use Rattle.std.proofs.Common.{◌≡◌, ◌++◌, [], ap, length, subst, List, 
 use Rattle.game_file.specs.Bytes.{IsEdge}
 use Rattle.earlier_layouts.specs.Spelled.{AreSpelled}
 use Rattle.earlier_layouts.specs.declared.image.fault.BytesFault.{BytesFault}
-use Rattle.table.proofs.Passing.{none_done}
-use Rattle.earlier_layouts.proofs.ImagePassing.{fault_is, done_whole}
+use Rattle.table.proofs.Exits.{none_done}
+use Rattle.earlier_layouts.proofs.ImageExits.{fault_is, done_whole}
 use Rattle.earlier_layouts.proofs.EdgeLemmas.{none_so_far, one_more_edge, edge_changes, edge_refused}
 use Rattle.earlier_layouts.proofs.Splits.{split_on, split_between}
 use Rattle.earlier_layouts.proofs.image.read_edges.read_edges.Goals as goal
@@ -23,11 +23,15 @@ returns-in_err-read_edge-clause-damaged g c = λ is all spelled long sorted with
     let before = c.loop-edge.invariant in
     let front = c.split_at.result.0.now in
     let back = c.split_at.result.1.now in
-    let known : length (g.T.Table.stored c.loop-edge.table).positions ≡ length (g.T.Table.stored c.args.table.now).positions = ap length before.kept.positions in
+    let known : length (g.T.Table.stored c.loop-edge.table).positions ≡ length
+    (g.T.Table.stored c.args.table.now).positions = ap length before.kept.positions in
     let parts = split_between c.args.bytes.now before.done c.loop-edge.rest.now front back 8 before.split c.split_at.ensures.front c.split_at.ensures.back in
-    edge_refused before.done front back c.loop-edge._edge (length (g.T.Table.stored c.args.table.now).positions) c.loop-edge.before (g.T.Table.stored c.loop-edge.table) all before.so_far
+    edge_refused before.done front back c.loop-edge._edge (length (g.T.Table.stored c.args.table.now).positions) c.loop-edge.before
+    (g.T.Table.stored c.loop-edge.table) all before.so_far
     (subst (λ (b : List ℕ). AreSpelled IsEdge b all) parts spelled) (omega (arith, long, c.loop-edge-test.true)) c.split_at.ensures.front_len sorted within
-    (λ e of past first second. c.in_err-read_edge.ensures.damaged (ap (λ (f : BytesFault). Err f) (fault_is c.from_residual.result _ c.from_residual.ensures is)) e of past (omega (arith, first, known)) (omega (arith, second, known)))
+    (λ e of past first second. c.in_err-read_edge.ensures.damaged
+    (ap (λ (f : BytesFault). Err f) (fault_is c.from_residual.result _ c.from_residual.ensures is)) e of past
+    (omega (arith, first, known)) (omega (arith, second, known)))
 
 pub loop-edge-preserved : goal.loop-edge-preserved
 loop-edge-preserved g c =

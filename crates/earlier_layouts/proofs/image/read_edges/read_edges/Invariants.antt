@@ -1,5 +1,5 @@
 use Rattle.std.proofs.Common.{◌≡◌, ◌-◌, ◌*◌, ℕ, List, ◌++◌, length}
-use Rattle.earlier_layouts.specs.aid.ImageReading.{ChangesEdges}
+use Rattle.earlier_layouts.specs.lemmas.ImageReads.{ChangesEdges}
 use Rattle.earlier_layouts.proofs.EdgeLemmas.{EdgesSoFar}
 use Rattle.earlier_layouts.proofs.image.read_edges.read_edges.Given as goal
 

@@ -1,6 +1,6 @@
 use Rattle.std.proofs.Common.{◌++◌, sym, arith}
-use Rattle.table.proofs.Passing.{none_done}
-use Rattle.earlier_layouts.proofs.ImagePassing.{not_damaged, done_whole}
+use Rattle.table.proofs.Exits.{none_done}
+use Rattle.earlier_layouts.proofs.ImageExits.{not_damaged, done_whole}
 use Rattle.earlier_layouts.proofs.OrderLemmas.{one_more_number}
 use Rattle.earlier_layouts.proofs.Splits.{split_on}
 use Rattle.earlier_layouts.proofs.image.read_edges.read_order.Goals as goal
@@ -15,7 +15,8 @@ loop-place-preserved g c =
       done = before.done ++ front;
       split = split_on c.args.bytes.now before.done c.loop-place.rest.now front c.split_at.result.1.now 4 before.split c.split_at.ensures.front c.split_at.ensures.back;
       so_far =
-          one_more_number before.done front c.loop-place._place c.read_u32.result (g.T.Table.stored c.args.table.now) (g.T.Table.stored c.loop-place.table) (g.T.Table.stored c.push_settled.new.self)
+          one_more_number before.done front c.loop-place._place c.read_u32.result (g.T.Table.stored c.args.table.now)
+          (g.T.Table.stored c.loop-place.table) (g.T.Table.stored c.push_settled.new.self)
           before.so_far (record { long = c.split_at.ensures.front_len; is = sym c.read_u32.ensures }) (c.in_ok-push_settled.ensures.pushed before.honest);
     }
 

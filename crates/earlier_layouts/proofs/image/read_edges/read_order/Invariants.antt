@@ -1,5 +1,5 @@
 use Rattle.std.proofs.Common.{◌≡◌, ◌-◌, ◌*◌, ℕ, List, ◌++◌, length}
-use Rattle.earlier_layouts.specs.aid.ImageReading.{AddsOrder}
+use Rattle.earlier_layouts.specs.lemmas.ImageReads.{AddsOrder}
 use Rattle.earlier_layouts.proofs.image.read_edges.read_order.Given as goal
 
 abbrev pub invariant-loop-place : goal.invariant-loop-place

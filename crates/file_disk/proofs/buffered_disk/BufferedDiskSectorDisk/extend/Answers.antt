@@ -3,7 +3,7 @@ use Rattle.sector_disk.specs.Disk.{IsLonger}
 use Rattle.file_disk.specs.Buffers.{Buffers}
 use Rattle.file_disk.proofs.Disks.{word, above, size_is, both_now, extends_over, lengthen_extends, lengthen_keeps, zeros_over}
 use Rattle.file_disk.proofs.Disks.{counted_over, ok_on, longer_or_same}
-use Rattle.file_disk.proofs.Flushing.{on_true}
+use Rattle.file_disk.proofs.Flushes.{on_true}
 use Rattle.file_disk.proofs.buffered_disk.BufferedDiskSectorDisk.extend.Goals as goal
 
 pub extend-done-requires : goal.extend-done-requires

@@ -1,7 +1,7 @@
 use Rattle.std.proofs.Common.{◌≡◌, ◌∙◌, arith, refl, sym}
 use Rattle.sector_disk.specs.Disk.{Shown}
 use Rattle.file_disk.proofs.Disks.{word, below, sector_now, both_now, now_same, steps_over, idle_steps, spared_over, ok_on}
-use Rattle.file_disk.proofs.Flushing.{on_true}
+use Rattle.file_disk.proofs.Flushes.{on_true}
 use Rattle.file_disk.proofs.buffered_disk.BufferedDiskSectorDisk.read.Goals as goal
 
 pub read-done-requires : goal.read-done-requires

@@ -3,7 +3,7 @@ use Rattle.sector_disk.specs.Disk.{AllSynced, SyncedMore}
 use Rattle.file_disk.specs.Buffers.{Buffers}
 use Rattle.file_disk.proofs.Disks.{word, one_now, both_now, steps_over, write_steps, sync_steps, sync_all, sync_more, tried_keeps}
 use Rattle.file_disk.proofs.Disks.{counted_over, ok_on, done_or_not, false_of}
-use Rattle.file_disk.proofs.Flushing.{on_true}
+use Rattle.file_disk.proofs.Flushes.{on_true}
 use Rattle.file_disk.proofs.buffered_disk.BufferedDiskSectorDisk.sync.Goals as goal
 
 pub returns-clause-all : goal.returns-clause-all

@@ -2,7 +2,7 @@ use Rattle.std.proofs.Common.{◌∙◌, ◌≢◌, arith, ℕ, sym}
 use Rattle.sector_disk.specs.Disk.{Keeps}
 use Rattle.file_disk.specs.Buffers.{Buffers}
 use Rattle.file_disk.proofs.Disks.{word, below, sector_now, both_now, steps_over, write_steps, write_keeps, counted_over, ok_on}
-use Rattle.file_disk.proofs.Flushing.{on_true}
+use Rattle.file_disk.proofs.Flushes.{on_true}
 use Rattle.file_disk.proofs.buffered_disk.BufferedDiskSectorDisk.write.Goals as goal
 
 pub write-done-requires : goal.write-done-requires

@@ -1,8 +1,8 @@
 use Rattle.std.proofs.Common.{rules, sym, subst, ◌∙◌, ◌≡◌, Bool, true, false, arith}
 use Rattle.std.specs.Prelude.{IsTrue}
-use Rattle.file_disk.proofs.Flushing.{on_true, true_on}
-use Rattle.file_disk.proofs.Noting.{cuts, lengthens, lengthens_none}
-use Rattle.file_disk.proofs.Showing.{none_waits, shows_as, cut_keeps, longer_zeros, longer_keeps}
+use Rattle.file_disk.proofs.Flushes.{on_true, true_on}
+use Rattle.file_disk.proofs.Events.{cuts, lengthens, lengthens_none}
+use Rattle.file_disk.proofs.Shown.{none_waits, shows_as, cut_keeps, longer_zeros, longer_keeps}
 use Rattle.file_disk.proofs.buffered_file.BufferedFile.extend.Goals as goal
 
 pub returns-clause-zeros : goal.returns-clause-zeros

@@ -1,5 +1,5 @@
 use Rattle.std.proofs.Common.{sym, ◌∙◌}
-use Rattle.file_disk.proofs.Showing.{all_in_file, nothing_waits}
+use Rattle.file_disk.proofs.Shown.{all_in_file, nothing_waits}
 use Rattle.file_disk.proofs.buffered_file.BufferedFile.flush.Goals as goal
 
 pub returns-clause-in_file : goal.returns-clause-in_file

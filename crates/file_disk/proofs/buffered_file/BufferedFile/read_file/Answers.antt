@@ -1,7 +1,7 @@
 use Rattle.std.proofs.Common.{ap, sym, subst, ◌∙◌, Bool, List, ℕ}
 use Rattle.std.specs.Prelude.{IsTrue}
 use Rattle.file_disk.specs.Bytes.{sector_of}
-use Rattle.file_disk.proofs.Showing.{page_gives}
+use Rattle.file_disk.proofs.Shown.{page_gives}
 use Rattle.file_disk.proofs.buffered_file.BufferedFile.read_file.Goals as goal
 
 pub returns-then-give-clause-bytes : goal.returns-then-give-clause-bytes

@@ -1,6 +1,6 @@
 use Rattle.std.proofs.Common.{rules, ◌≡◌, ◌++◌, ◌-◌, ℕ, length, take, ap, ◌∙◌}
 use Rattle.std.specs.Prelude.{replicate}
-use Rattle.file_disk.proofs.Resizing.{resized_is, resized_keeps, same_keeps}
+use Rattle.file_disk.proofs.Lengths.{resized_is, resized_keeps, same_keeps}
 use Rattle.file_disk.proofs.memory_file.MemoryFileByteFile.set_len.Goals as goal
 
 pub returns-in-Ok-clause-resized : goal.returns-in-Ok-clause-resized

@@ -1,5 +1,5 @@
 use Rattle.std.proofs.Common.{arith, ◌<◌, length}
-use Rattle.file_disk.proofs.Placing.{fill_put, fill_others, fill_slots, gets_sector}
+use Rattle.file_disk.proofs.PagePlaces.{fill_put, fill_others, fill_slots, gets_sector}
 use Rattle.file_disk.proofs.waiting_writes.WaitingWrites.fill.Goals as goal
 
 pub returns-clause-put : goal.returns-clause-put

@@ -1,4 +1,4 @@
-use Rattle.file_disk.specs.aid.Search.{IsLeast}
+use Rattle.file_disk.specs.lemmas.Search.{IsLeast}
 use Rattle.file_disk.proofs.waiting_writes.WaitingWrites.least_from.Given as goal
 
 abbrev pub invariant-loop-place : goal.invariant-loop-place

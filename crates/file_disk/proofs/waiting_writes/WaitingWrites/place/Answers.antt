@@ -1,7 +1,7 @@
 use Rattle.std.proofs.Common.{sym, ap, arith, ◌∙◌, ◌≡◌, ◌<◌, ◌-◌, length}
 use Rattle.std.proofs.lemmas.Grind.{get_or_default_zero}
 use Rattle.file_disk.specs.declared.waiting_page.WaitingPage.{WaitingPage}
-use Rattle.file_disk.specs.Waiting.{page_at}
+use Rattle.file_disk.specs.WaitingSectors.{page_at}
 use Rattle.file_disk.proofs.Slots.{not_noted, place_found, stands}
 use Rattle.file_disk.proofs.waiting_writes.WaitingWrites.place.Goals as goal
 

@@ -1,6 +1,6 @@
 use Rattle.std.proofs.Common.{rules, arith, ◌≡◌, ◌<◌, length, None}
-use Rattle.file_disk.specs.Waiting.{place_of}
-use Rattle.file_disk.proofs.Placing.{added_same, added_slots, added_distinct, added_noted, added_placed, has_none}
+use Rattle.file_disk.specs.WaitingSectors.{place_of}
+use Rattle.file_disk.proofs.PagePlaces.{added_same, added_slots, added_distinct, added_noted, added_placed, has_none}
 use Rattle.file_disk.proofs.waiting_writes.WaitingWrites.place_for.Goals as goal
 
 pub invariant_of-self : goal.invariant_of-self

@@ -1,6 +1,6 @@
 use Rattle.std.proofs.Common.{sym, ap, arith, ◌∙◌, ◌≡◌, ◌<◌, length}
 use Rattle.file_disk.specs.declared.waiting_page.WaitingPage.{WaitingPage}
-use Rattle.file_disk.specs.Waiting.{page_at}
+use Rattle.file_disk.specs.WaitingSectors.{page_at}
 use Rattle.file_disk.proofs.Slots.{place_found, place_none, stands}
 use Rattle.file_disk.proofs.waiting_writes.WaitingWrites.place_of_any.Goals as goal
 

@@ -1,5 +1,5 @@
 use Rattle.std.proofs.Common.{◌≢◌, ℕ, ◌<◌}
-use Rattle.file_disk.specs.Waiting.{page_at}
+use Rattle.file_disk.specs.WaitingSectors.{page_at}
 use Rattle.file_disk.proofs.waiting_writes.WaitingWrites.place_of_any.Given as goal
 
 abbrev pub invariant-loop-place : goal.invariant-loop-place

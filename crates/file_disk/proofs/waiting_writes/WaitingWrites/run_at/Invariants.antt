@@ -1,4 +1,4 @@
-use Rattle.file_disk.specs.aid.Waiting.{IsRun}
+use Rattle.file_disk.specs.lemmas.WaitingSectors.{IsRun}
 use Rattle.file_disk.proofs.waiting_writes.WaitingWrites.run_at.Given as goal
 
 abbrev pub invariant-loop-run : goal.invariant-loop-run

@@ -1,7 +1,7 @@
 use Rattle.std.proofs.Common.{subst}
 use Rattle.legal_moves.specs.Compiled.{compiled_game, packing_kind}
 use Rattle.legal_moves.specs.Sources.{IsPositionBytes}
-use Rattle.game_table.specs.aid.Laws.{positions_have_one_length}
+use Rattle.game_table.specs.lemmas.Laws.{positions_have_one_length}
 use Rattle.game_table.proofs.source.Source.start.Goals as goal
 
 pub returns-clause-long : goal.returns-clause-long

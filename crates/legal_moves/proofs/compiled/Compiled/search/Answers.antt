@@ -7,9 +7,9 @@ use Rattle.legal_moves.specs.Compiled.{compiled_game}
 use Rattle.legal_moves.specs.Searches.{IsWide}
 use Rattle.legal_moves.specs.Jumps.{AreJumps}
 use Rattle.legal_moves.specs.Tables.{inner_of, AreSame}
-use Rattle.legal_moves.specs.aid.Configurations.{IsReady, IsSearch}
-use Rattle.legal_moves.specs.aid.Standing.{configurations_of}
-use Rattle.legal_moves.proofs.CompiledLemmas.{rules_search, rules_wide, rules_ready}
+use Rattle.legal_moves.specs.lemmas.Configurations.{IsReady, IsSearch}
+use Rattle.legal_moves.specs.lemmas.Stands.{configurations_of}
+use Rattle.legal_moves.proofs.automata.CompiledLemmas.{rules_search, rules_wide, rules_ready}
 use Rattle.legal_moves.proofs.compiled.Compiled.search.Goals as goal
 
 pub search-requires : goal.search-requires
@@ -18,9 +18,12 @@ search-requires c =
     let many : c.len-rules.result ≡ length c.self.inside.tables.items = omega arith in
     let here = subst (λ v. IsPositionOf (compiled_game v) c.args.at.now) (sym c.self.view_is) c.requires.at in
     record {
-      ready = subst (λ ts. IsReady game ts (c.len-rules.result - 1)) (sym c.deref.ensures.value) (subst (λ n. IsReady game c.self.inside.tables.items (n - 1)) (sym many) (rules_ready game c.self.inside.tables.items c.self.invariant.tables_are c.self.invariant.sound));
+      ready = subst (λ ts. IsReady game ts (c.len-rules.result - 1)) (sym c.deref.ensures.value)
+          (subst (λ n. IsReady game c.self.inside.tables.items (n - 1)) (sym many)
+          (rules_ready game c.self.inside.tables.items c.self.invariant.tables_are c.self.invariant.sound));
       same = subst (AreSame (inner_of game.rules)) (sym c.deref-2.ensures.value) c.self.invariant.same_are;
-      jumps = subst (λ ts. AreJumps game ts c.deref-3.result.now) (sym c.deref.ensures.value) (subst (AreJumps game c.self.inside.tables.items) (sym c.deref-3.ensures.value) c.self.invariant.jumps_are);
+      jumps = subst (λ ts. AreJumps game ts c.deref-3.result.now) (sym c.deref.ensures.value)
+          (subst (AreJumps game c.self.inside.tables.items) (sym c.deref-3.ensures.value) c.self.invariant.jumps_are);
       state = here.state_is;
     }
 
@@ -29,8 +32,11 @@ returns-clause-found c =
     let game = game_of c.self.inside.game in
     let at = c.args.at.now in
     let many : c.len-rules.result ≡ length c.self.inside.tables.items = omega arith in
-    subst (λ v. let other = compiled_game v in IfOk c.search.result (λ found. IsSearch other other.rules at.place at.state (configurations_of found))) c.self.view_is
-    (IfOk-weaker c.search.result _ _ (λ found h. rules_search game c.self.inside.tables.items c.len-rules.result at.place at.state at.state (configurations_of found) c.self.invariant.tables_are many refl h) c.search.ensures.found)
+    subst (λ v. let other = compiled_game v in IfOk c.search.result
+    (λ found. IsSearch other other.rules at.place at.state (configurations_of found))) c.self.view_is
+    (IfOk-weaker c.search.result _ _
+    (λ found h. rules_search game c.self.inside.tables.items c.len-rules.result at.place at.state at.state
+    (configurations_of found) c.self.invariant.tables_are many refl h) c.search.ensures.found)
 
 pub returns-clause-wide : goal.returns-clause-wide
 returns-clause-wide c =

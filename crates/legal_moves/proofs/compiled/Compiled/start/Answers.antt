@@ -6,10 +6,11 @@ use Rattle.rbg_game.specs.declared.position.Position.{Position}
 use Rattle.rbg_game.specs.declared.roles.Role.TheVariants.{Keeper}
 use Rattle.legal_moves.specs.Moves.{start_of}
 use Rattle.legal_moves.specs.Compiled.{compiled_game}
-use Rattle.legal_moves.proofs.CompiledLemmas.{start_position, start_is, taken_all}
+use Rattle.legal_moves.proofs.automata.CompiledLemmas.{start_position, start_is, taken_all}
 use Rattle.legal_moves.proofs.compiled.Compiled.start.Goals as goal
 
-map_take-more : {A : Type 0} (f : A → ℕ) (xs : List A) (i : ℕ) (x : A) → i < length xs → x ≡ get_or xs i x → map f (take (i + 1) xs) ≡ map f (take i xs) ++ f x ∷ []
+map_take-more : {A : Type 0} (f : A → ℕ) (xs : List A) (i : ℕ) (x : A) → i < length xs → x ≡ get_or xs i x
+    → map f (take (i + 1) xs) ≡ map f (take i xs) ++ f x ∷ []
 map_take-more f xs i x less is =
     ap (map f) (take_more xs i x less ∙ ap (λ y. take i xs ++ y ∷ []) (sym is)) ∙ map-append f (take i xs) (x ∷ [])
 
@@ -27,7 +28,8 @@ returns-clause-position c =
     let values = c.loop-variable.invariant ∙ taken_all (λ v. 0) game.variables.items c.deref-variable-items.result.now c.loop-variable._variable-index c.deref-variable-items.ensures.value c.loop-variable-test.false in
     let at = start_is game c.loop-vertex.pieces c.loop-variable.values pieces values in
     let it : Position = record { state = record { mover = Keeper; pieces = c.loop-vertex.pieces; values = c.loop-variable.values; vertex = 0 }; place = 0 } in
-    subst (λ v. IsPositionOf (compiled_game v) it) c.self.view_is (subst (IsPositionOf (game_of game)) (sym at) (start_position (game_of game) c.self.invariant.sound))
+    subst (λ v. IsPositionOf (compiled_game v) it) c.self.view_is
+    (subst (IsPositionOf (game_of game)) (sym at) (start_position (game_of game) c.self.invariant.sound))
 
 pub loop-vertex-preserved : goal.loop-vertex-preserved
 loop-vertex-preserved c =

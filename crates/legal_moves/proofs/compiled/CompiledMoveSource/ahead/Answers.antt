@@ -39,7 +39,8 @@ returns-in-Bits c =
     let many : n ≡ length game.vertices = omega (arith, length-map own.vertices.items vertex_of, same, c.len-scores.ensures, own.vertices.ok.0) in
     let first = c.field.ensures ∙ ap (λ s. field_at s n c.deref-in-Bits.result.now) shape ∙ ap (field_at (shape_of game) n) c.deref-in-Bits.ensures.0
     ∙ ap (λ k. field_at (shape_of game) k x) many in
-    let second = c.field-in-Bits.ensures ∙ ap (λ s. field_at s (n + 1) c.deref-in-Bits-2.result.now) shape ∙ ap (field_at (shape_of game) (n + 1)) c.deref-in-Bits-2.ensures.0
+    let second = c.field-in-Bits.ensures ∙ ap (λ s. field_at s (n + 1) c.deref-in-Bits-2.result.now) shape
+    ∙ ap (field_at (shape_of game) (n + 1)) c.deref-in-Bits-2.ensures.0
     ∙ ap (λ k. field_at (shape_of game) (k + 1) x) many in
     let wanted : points_of c.self.inside.goal ≡ v.goal = ap (λ w. w.goal) c.self.view_is in
     c.leader_of-in-Bits.ensures ∙ ap (λ g. leader g c.field.result c.field-in-Bits.result) wanted

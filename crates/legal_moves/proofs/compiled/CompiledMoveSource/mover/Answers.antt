@@ -20,7 +20,8 @@ returns-in-Bytes c =
     let same = ap (λ w. length (compiled_game w).vertices) c.self.view_is in
     let same' = ap (λ w. length (compiled_game w).variables) c.self.view_is in
     let n = c.len-vertices.result + 3 * c.len-variables.result + 1 in
-    let index : n ≡ length game.vertices + 3 * length game.variables + 1 = omega (arith, vertices, variables, same, same', c.len-vertices.ensures, c.len-variables.ensures, own.vertices.ok.0, own.variables.ok.0) in
+    let index : n ≡ length game.vertices + 3 * length game.variables + 1 = omega
+    (arith, vertices, variables, same, same', c.len-vertices.ensures, c.len-variables.ensures, own.vertices.ok.0, own.variables.ok.0) in
     c.role_with.ensures ∙ ap role_by (c.from.ensures ∙ c.byte_at.ensures ∙ ap (λ xs. slice_index xs n) c.deref.ensures.0 ∙ ap (slice_index x) index)
     ∙ sym (ap (λ k. role_in k game x) by)
 
@@ -37,6 +38,8 @@ returns-in-Bits c =
     let same = ap (λ w. length (compiled_game w).vertices) c.self.view_is in
     let same' = ap (λ w. length (compiled_game w).variables) c.self.view_is in
     let n = c.len-vertices.result + c.len-variables.result + 1 in
-    let index : n ≡ length game.vertices + length game.variables + 1 = omega (arith, vertices, variables, same, same', c.len-vertices.ensures, c.len-variables.ensures, own.vertices.ok.0, own.variables.ok.0) in
-    c.role_with-in-Bits.ensures ∙ ap role_by (c.field.ensures ∙ ap (λ s. field_at s n c.deref-in-Bits.result.now) shape ∙ ap (field_at (shape_of game) n) c.deref-in-Bits.ensures.0
+    let index : n ≡ length game.vertices + length game.variables + 1 = omega
+    (arith, vertices, variables, same, same', c.len-vertices.ensures, c.len-variables.ensures, own.vertices.ok.0, own.variables.ok.0) in
+    c.role_with-in-Bits.ensures ∙ ap role_by
+    (c.field.ensures ∙ ap (λ s. field_at s n c.deref-in-Bits.result.now) shape ∙ ap (field_at (shape_of game) n) c.deref-in-Bits.ensures.0
     ∙ ap (λ i. field_at (shape_of game) i x) index) ∙ sym (ap (λ k. role_in k game x) by)

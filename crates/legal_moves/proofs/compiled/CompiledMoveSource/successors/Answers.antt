@@ -11,12 +11,11 @@ use Rattle.legal_moves.specs.Compiled.{compiled_game, packing_kind, IsCompiled}
 use Rattle.legal_moves.specs.declared.compiled.Compiled.TheInside.{Inside}
 use Rattle.legal_moves.specs.Listed.{ListsExactly}
 use Rattle.legal_moves.specs.Sources.{IsAt, IsMoveBetween}
-use Rattle.legal_moves.specs.aid.Ends.{AreAscendingEnds}
-use Rattle.legal_moves.specs.aid.Standing.{configurations_of}
+use Rattle.legal_moves.specs.lemmas.Ends.{AreAscendingEnds}
+use Rattle.legal_moves.specs.lemmas.Stands.{configurations_of}
 use Rattle.legal_moves.proofs.Exits.{refused, not_ok, no_error}
-use Rattle.legal_moves.proofs.SourceLemmas.{at_by_packed, packed_by_at, narrow_at}
-use Rattle.legal_moves.proofs.WidthLemmas.{narrow_by_search}
-use Rattle.legal_moves.proofs.PackedEnds.{lists_ends, few_ends}
+use Rattle.legal_moves.proofs.answers.SourceLemmas.{at_by_packed, packed_by_at, narrow_at}
+use Rattle.legal_moves.proofs.answers.PackedEnds.{lists_ends, few_ends}
 use Rattle.legal_moves.proofs.Faults.{passed, for_want}
 use Rattle.legal_moves.proofs.compiled.CompiledMoveSource.successors.Goals as goal
 
@@ -42,8 +41,8 @@ module _ (inside : Inside) (v : CompiledGame) (same : seen inside ≡ v) (is : I
   nowhere x y here none at is_at =
       none at (subst (IsPacked inside.packing at) (sym here) (packed_by_at (packing_kind v) (compiled_game v) inside.packing x at own_form is_at))
 
-pub search-requires : goal.search-requires
-search-requires c =
+pub ends-requires : goal.ends-requires
+ends-requires c =
     let here = unpacked_at c.self.inside c.args.self.now c.self.view_is c.self.invariant c.args.at.now.items c.deref.result.now c.in-Some.position c.deref.ensures.0 c.in-Some.ensures in
     record { at = here.position_is }
 
@@ -55,7 +54,7 @@ returns-clause-exact c =
     let cs = configurations_of c.in_ok-found.found in
     let ys = map (λ (p : ArrayVec ℕ). p.items) c.in_ok-successors.successors.items in
     let ends = subst (λ f. AreAscendingEnds f cs ys) (own_form c.self.inside v c.self.view_is c.self.invariant) c.in_ok-successors.ensures in
-    lists_ends v.kind (compiled_game v) c.requires.sound x c.in-Some.position here cs c.in_ok-found.ensures.found ys ends
+    lists_ends v.kind (compiled_game v) c.requires.sound x c.in-Some.position here cs c.in_ok-found.ensures.reached ys ends
 
 pub returns-clause-few : goal.returns-clause-few
 returns-clause-few c =
@@ -65,7 +64,7 @@ returns-clause-few c =
     let cs = configurations_of c.in_ok-found.found in
     let ys = map (λ (p : ArrayVec ℕ). p.items) c.in_ok-successors.successors.items in
     let ends = subst (λ f. AreAscendingEnds f cs ys) (own_form c.self.inside v c.self.view_is c.self.invariant) c.in_ok-successors.ensures in
-    let few = few_ends v.kind (compiled_game v) c.requires.sound x c.in-Some.position here cs c.in_ok-found.ensures.found ys ends in
+    let few = few_ends v.kind (compiled_game v) c.requires.sound x c.in-Some.position here cs c.in_ok-found.ensures.reached ys ends in
     omega (arith, few, length-map c.in_ok-successors.successors.items (λ (p : ArrayVec ℕ). p.items))
 
 pub returns-clause-narrow : goal.returns-clause-narrow
@@ -74,7 +73,8 @@ returns-clause-narrow c =
     let x = c.args.at.now.items in
     let here = unpacked_at c.self.inside v c.self.view_is c.self.invariant x c.deref.result.now c.in-Some.position c.deref.ensures.0 c.in-Some.ensures in
     let game = compiled_game v in
-    λ ok. narrow_at v.kind game c.requires.sound x c.in-Some.position here (narrow_by_search game game.rules c.in-Some.position.place c.in-Some.position.state (configurations_of c.in_ok-found.found) c.in_ok-found.ensures.found)
+    λ ok. narrow_at v.kind game c.requires.sound x c.in-Some.position here
+    c.in_ok-found.ensures.reached.narrow
 
 pub returns-clause-wide : goal.returns-clause-wide
 returns-clause-wide c = no_error
@@ -125,7 +125,8 @@ returns-in_default-clause-wide c = no_error
 pub returns-in_default-clause-exact : goal.returns-in_default-clause-exact
 returns-in_default-clause-exact c =
     let none = nowhere c.self.inside c.args.self.now c.self.view_is c.self.invariant c.args.at.now.items c.deref.result.now c.deref.ensures.0 c.in_default.ensures in
-    subst (λ xs. ListsExactly (IsMoveBetween (packing_kind c.args.self.now) (compiled_game c.args.self.now) c.args.at.now.items) (map (λ (p : ArrayVec ℕ). p.items) xs)) (sym c.new.ensures.items)
+    subst (λ xs. ListsExactly (IsMoveBetween (packing_kind c.args.self.now) (compiled_game c.args.self.now) c.args.at.now.items)
+    (map (λ (p : ArrayVec ℕ). p.items) xs)) (sym c.new.ensures.items)
     (record { only = λ k d less. absurd (omega (arith, less)); all = λ y moves. absurd (none moves.0 moves.2); ascending = search rules })
 
 pub returns-in_default-clause-few : goal.returns-in_default-clause-few

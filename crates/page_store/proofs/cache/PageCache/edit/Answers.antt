@@ -1,6 +1,6 @@
 use Rattle.std.proofs.Common.{◌∙◌, refl, sym}
 use Rattle.std.proofs.lemmas.List.{get_or_default}
-use Rattle.page_store.proofs.Caching.{edited_at}
+use Rattle.page_store.proofs.CachedPages.{edited_at}
 use Rattle.page_store.proofs.cache.PageCache.edit.Goals as goal
 
 pub returns-in-Some-apply-clause-edited : goal.returns-in-Some-apply-clause-edited

@@ -1,4 +1,4 @@
-use Rattle.page_store.proofs.Caching.{let_go_of, left_apart}
+use Rattle.page_store.proofs.CachedPages.{let_go_of, left_apart}
 use Rattle.page_store.proofs.cache.PageCache.forget.Goals as goal
 
 pub invariant_of-self : goal.invariant_of-self

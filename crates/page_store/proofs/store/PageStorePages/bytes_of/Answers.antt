@@ -1,5 +1,4 @@
-use Rattle.std.proofs.Common.{List, ℕ}
-use Rattle.page_store.proofs.Caching.{held_reads, kept_some}
+use Rattle.page_store.proofs.CachedPages.{held_reads, kept_some}
 use Rattle.page_store.proofs.store.PageStorePages.bytes_of.Goals as goal
 
 pub returns-clause-bytes : goal.returns-clause-bytes

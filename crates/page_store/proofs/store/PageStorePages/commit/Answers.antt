@@ -1,12 +1,13 @@
 use Rattle.std.proofs.Common.{rules, refl, inl, inr, arith}
-use Rattle.sector_disk.specs.aid.Moments.{goes_on_refl, leaves_now, leaves_more}
-use Rattle.root_pair.specs.aid.Rest.{pages_behind}
+use Rattle.sector_disk.specs.lemmas.Moments.{goes_on_refl, leaves_now, leaves_more}
+use Rattle.root_pair.specs.lemmas.Rest.{pages_behind}
 use Rattle.page_store.specs.Holds.{holds_of}
 use Rattle.page_store.specs.Store.{store_of}
-use Rattle.page_store.specs.aid.Works.{safe_saves, closes_same, closes_failed}
-use Rattle.page_store.proofs.Keeping.{old_or_new, pages_kept, was_honest, published_reads, published_leaves, published_grew, published_held, published_header}
-use Rattle.page_store.proofs.Caching.{carried, committed_kept}
-use Rattle.page_store.proofs.Passing.{not_closed, is_read, no_read}
+use Rattle.page_store.specs.lemmas.Works.{safe_saves, closes_same, closes_failed}
+use Rattle.page_store.proofs.Soundness.{old_or_new, pages_kept, was_honest, published_reads, published_leaves, published_grew, published_held, published_header}
+use Rattle.page_store.proofs.CachedPages.{carried, committed_kept}
+use Rattle.page_store.proofs.Exits.{not_closed, is_read, no_read}
+use Rattle.page_store.proofs.Unused.{unused_committed}
 use Rattle.page_store.proofs.store.PageStorePages.commit.Goals as goal
 
 pub returns-then-self-clause-commits : goal.returns-then-self-clause-commits
@@ -30,15 +31,21 @@ returns-in-Ok-clause-commits g c = record {
   leaves = λ honest safe. leaves_more (old_or_new _ _ safe) (c.publish.ensures.moments honest safe.rest);
   holds = refl;
   held = λ honest. published_held
-      (store_of (g.D.SectorDisk.disk c.args.self.now.disk) (g.D.SectorDisk.failures c.args.self.now.disk) c.args.self.now.root.bytes c.args.self.now.marks.items c.args.self.now.closed (holds_of c.args.self.now.taken c.args.self.now.holders.items))
-      (g.D.SectorDisk.disk c.publish.new.disk) honest (pages_behind (g.D.SectorDisk.disk c.args.self.now.disk) (g.D.SectorDisk.disk c.publish.new.disk) c.publish.ensures.others);
+      (store_of (g.D.SectorDisk.disk c.args.self.now.disk)
+      (g.D.SectorDisk.failures c.args.self.now.disk) c.args.self.now.root.bytes c.args.self.now.marks.items c.args.self.now.closed
+      (holds_of c.args.self.now.taken c.args.self.now.holders.items))
+      (g.D.SectorDisk.disk c.publish.new.disk) honest
+      (pages_behind (g.D.SectorDisk.disk c.args.self.now.disk) (g.D.SectorDisk.disk c.publish.new.disk) c.publish.ensures.others);
   header = published_header (g.D.SectorDisk.disk c.args.self.now.disk) (g.D.SectorDisk.disk c.publish.new.disk) c.publish.ensures.others;
 }
 
 pub returns-in-Ok-clause-after : goal.returns-in-Ok-clause-after
 returns-in-Ok-clause-after g c = λ honest.
-    published_leaves (store_of (g.D.SectorDisk.disk c.args.self.now.disk) (g.D.SectorDisk.failures c.args.self.now.disk) c.args.self.now.root.bytes c.args.self.now.marks.items c.args.self.now.closed (holds_of c.args.self.now.taken c.args.self.now.holders.items))
-    _ _ (omega (arith, c.args.self.now.sound.fits, c.publish.ensures.same_size)) (c.in-Ok.ensures.ok honest (c.args.self.now.sound.safe honest c.if-self.false).rest)
+    published_leaves (store_of (g.D.SectorDisk.disk c.args.self.now.disk)
+    (g.D.SectorDisk.failures c.args.self.now.disk) c.args.self.now.root.bytes c.args.self.now.marks.items c.args.self.now.closed
+    (holds_of c.args.self.now.taken c.args.self.now.holders.items))
+    _ _ (omega (arith, c.args.self.now.sound.fits, c.publish.ensures.same_size))
+    (c.in-Ok.ensures.ok honest (c.args.self.now.sound.safe honest c.if-self.false).rest)
 
 pub returns-in-Ok-clause-ok : goal.returns-in-Ok-clause-ok
 returns-in-Ok-clause-ok g c = record {
@@ -57,8 +64,11 @@ returns-then-is_read-clause-commits g c = record {
   leaves = λ honest safe. leaves_more (old_or_new _ _ safe) (c.publish.ensures.moments honest safe.rest);
   holds = refl;
   held = λ honest. published_held
-      (store_of (g.D.SectorDisk.disk c.args.self.now.disk) (g.D.SectorDisk.failures c.args.self.now.disk) c.args.self.now.root.bytes c.args.self.now.marks.items c.args.self.now.closed (holds_of c.args.self.now.taken c.args.self.now.holders.items))
-      (g.D.SectorDisk.disk c.publish.new.disk) honest (pages_behind (g.D.SectorDisk.disk c.args.self.now.disk) (g.D.SectorDisk.disk c.publish.new.disk) c.publish.ensures.others);
+      (store_of (g.D.SectorDisk.disk c.args.self.now.disk)
+      (g.D.SectorDisk.failures c.args.self.now.disk) c.args.self.now.root.bytes c.args.self.now.marks.items c.args.self.now.closed
+      (holds_of c.args.self.now.taken c.args.self.now.holders.items))
+      (g.D.SectorDisk.disk c.publish.new.disk) honest
+      (pages_behind (g.D.SectorDisk.disk c.args.self.now.disk) (g.D.SectorDisk.disk c.publish.new.disk) c.publish.ensures.others);
   header = published_header (g.D.SectorDisk.disk c.args.self.now.disk) (g.D.SectorDisk.disk c.publish.new.disk) c.publish.ensures.others;
 }
 
@@ -71,8 +81,11 @@ returns-else-is_read-clause-commits g c = record {
   leaves = λ honest safe. leaves_more (old_or_new _ _ safe) (c.publish.ensures.moments honest safe.rest);
   holds = refl;
   held = λ honest. published_held
-      (store_of (g.D.SectorDisk.disk c.args.self.now.disk) (g.D.SectorDisk.failures c.args.self.now.disk) c.args.self.now.root.bytes c.args.self.now.marks.items c.args.self.now.closed (holds_of c.args.self.now.taken c.args.self.now.holders.items))
-      (g.D.SectorDisk.disk c.publish.new.disk) honest (pages_behind (g.D.SectorDisk.disk c.args.self.now.disk) (g.D.SectorDisk.disk c.publish.new.disk) c.publish.ensures.others);
+      (store_of (g.D.SectorDisk.disk c.args.self.now.disk)
+      (g.D.SectorDisk.failures c.args.self.now.disk) c.args.self.now.root.bytes c.args.self.now.marks.items c.args.self.now.closed
+      (holds_of c.args.self.now.taken c.args.self.now.holders.items))
+      (g.D.SectorDisk.disk c.publish.new.disk) honest
+      (pages_behind (g.D.SectorDisk.disk c.args.self.now.disk) (g.D.SectorDisk.disk c.publish.new.disk) c.publish.ensures.others);
   header = published_header (g.D.SectorDisk.disk c.args.self.now.disk) (g.D.SectorDisk.disk c.publish.new.disk) c.publish.ensures.others;
 }
 
@@ -80,28 +93,38 @@ pub returns-else-is_read-clause-cause : goal.returns-else-is_read-clause-cause
 returns-else-is_read-clause-cause g c = (published_grew _ _ _ c.in-Err.ensures.fault, inr refl)
 
 pub returns-in-Ok-clause-kept_pages : goal.returns-in-Ok-clause-kept_pages
-returns-in-Ok-clause-kept_pages g c = λ honest. pages_kept _ _ (pages_behind (g.D.SectorDisk.disk c.args.self.now.disk) (g.D.SectorDisk.disk c.publish.new.disk) c.publish.ensures.others honest)
+returns-in-Ok-clause-kept_pages g c = λ honest. pages_kept _ _
+    (pages_behind (g.D.SectorDisk.disk c.args.self.now.disk) (g.D.SectorDisk.disk c.publish.new.disk) c.publish.ensures.others honest)
 
 pub returns-then-is_read-clause-kept_pages : goal.returns-then-is_read-clause-kept_pages
-returns-then-is_read-clause-kept_pages g c = λ honest. pages_kept _ _ (pages_behind (g.D.SectorDisk.disk c.args.self.now.disk) (g.D.SectorDisk.disk c.publish.new.disk) c.publish.ensures.others honest)
+returns-then-is_read-clause-kept_pages g c = λ honest. pages_kept _ _
+    (pages_behind (g.D.SectorDisk.disk c.args.self.now.disk) (g.D.SectorDisk.disk c.publish.new.disk) c.publish.ensures.others honest)
 
 pub returns-else-is_read-clause-kept_pages : goal.returns-else-is_read-clause-kept_pages
-returns-else-is_read-clause-kept_pages g c = λ honest. pages_kept _ _ (pages_behind (g.D.SectorDisk.disk c.args.self.now.disk) (g.D.SectorDisk.disk c.publish.new.disk) c.publish.ensures.others honest)
+returns-else-is_read-clause-kept_pages g c = λ honest. pages_kept _ _
+    (pages_behind (g.D.SectorDisk.disk c.args.self.now.disk) (g.D.SectorDisk.disk c.publish.new.disk) c.publish.ensures.others honest)
 
 pub invariant_of-self-clause-cached : goal.invariant_of-self-clause-cached
 invariant_of-self-clause-cached g c =
-    carried _ _ _ _ c.args.self.now.cached (λ p held there. there) (was_honest c.publish.ensures.time) (λ p held there. committed_kept _ _ _ c.turn_committed.ensures.committed p)
-    (λ h p held there behind k within. (pages_behind (g.D.SectorDisk.disk c.args.self.now.disk) (g.D.SectorDisk.disk c.publish.new.disk) c.publish.ensures.others) h k (omega (arith, behind, within.0)))
+    carried _ _ _ _ c.args.self.now.cached (λ p held there. there) (was_honest c.publish.ensures.time)
+    (λ p held there. committed_kept _ _ _ c.turn_committed.ensures.committed p)
+    (λ h p held there behind k within.
+    (pages_behind (g.D.SectorDisk.disk c.args.self.now.disk) (g.D.SectorDisk.disk c.publish.new.disk) c.publish.ensures.others) h k
+    (omega (arith, behind, within.0)))
 
 pub invariant_of-self-then-is_read-clause-cached : goal.invariant_of-self-then-is_read-clause-cached
 invariant_of-self-then-is_read-clause-cached g c =
     carried _ _ _ _ c.args.self.now.cached (λ p held there. there) (was_honest c.publish.ensures.time) (λ p held there kept. kept)
-    (λ h p held there behind k within. (pages_behind (g.D.SectorDisk.disk c.args.self.now.disk) (g.D.SectorDisk.disk c.publish.new.disk) c.publish.ensures.others) h k (omega (arith, behind, within.0)))
+    (λ h p held there behind k within.
+    (pages_behind (g.D.SectorDisk.disk c.args.self.now.disk) (g.D.SectorDisk.disk c.publish.new.disk) c.publish.ensures.others) h k
+    (omega (arith, behind, within.0)))
 
 pub invariant_of-self-in-Err-clause-cached : goal.invariant_of-self-in-Err-clause-cached
 invariant_of-self-in-Err-clause-cached g c =
     carried _ _ _ _ c.args.self.now.cached (λ p held there. there) (was_honest c.publish.ensures.time) (λ p held there kept. kept)
-    (λ h p held there behind k within. (pages_behind (g.D.SectorDisk.disk c.args.self.now.disk) (g.D.SectorDisk.disk c.publish.new.disk) c.publish.ensures.others) h k (omega (arith, behind, within.0)))
+    (λ h p held there behind k within.
+    (pages_behind (g.D.SectorDisk.disk c.args.self.now.disk) (g.D.SectorDisk.disk c.publish.new.disk) c.publish.ensures.others) h k
+    (omega (arith, behind, within.0)))
 
 pub returns-then-self-clause-after : goal.returns-then-self-clause-after
 returns-then-self-clause-after g c = λ honest. tt
@@ -177,3 +200,6 @@ returns-in-Ok-clause-cause g c = tt
 
 pub returns-in-Ok-clause-closed : goal.returns-in-Ok-clause-closed
 returns-in-Ok-clause-closed g c = λ is. absurd (not_closed _ c.if-self.false is)
+
+pub invariant_of-self-clause-unused : goal.invariant_of-self-clause-unused
+invariant_of-self-clause-unused g c = unused_committed _ _ _ _ c.args.self.now.unused c.turn_committed.ensures.committed

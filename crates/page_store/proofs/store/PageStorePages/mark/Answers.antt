@@ -1,11 +1,12 @@
 use Rattle.std.proofs.Common.{◌≡◌, ◌<◌, ◌∙◌, length, ap, refl, sym, arith, rules}
 use Rattle.std.proofs.lemmas.List.{get_or_default}
-use Rattle.page_store.specs.declared.marks.Mark.TheVariants.{Committed, Waiting}
+use Rattle.page_store.specs.declared.marks.Mark.TheVariants.{Committed, Waiting, Free}
 use Rattle.page_store.specs.Marks.{mark, needs, is_past}
-use Rattle.page_store.specs.aid.Works.{works_refl}
-use Rattle.page_store.proofs.Keeping.{marked_works, marked_sound, not_zero, waiting_apart}
-use Rattle.page_store.proofs.Caching.{carried, still_kept}
-use Rattle.page_store.proofs.Passing.{not_closed}
+use Rattle.page_store.specs.lemmas.Works.{works_refl}
+use Rattle.page_store.proofs.Soundness.{marked_works, marked_sound, not_zero, waiting_apart}
+use Rattle.page_store.proofs.CachedPages.{carried, still_kept}
+use Rattle.page_store.proofs.Exits.{not_closed}
+use Rattle.page_store.proofs.Unused.{unused_marked}
 use Rattle.page_store.proofs.store.PageStorePages.mark.Goals as goal
 
 pub returns-then-self-clause-works : goal.returns-then-self-clause-works
@@ -20,10 +21,19 @@ invariant_of-self g c =
     let found : c.index.result.now ≡ Waiting = search rules in
     let was : mark c.args.self.now.marks.items c.args.page ≡ Waiting = sym (c.index.ensures ∙ get_or_default _ _ _ Committed here) ∙ found in
     record {
-      sound = marked_sound _ _ _ _ (record { disk = refl; failures = refl; root = refl; closed = refl; holds = refl }) c.put_mark.ensures.marked (sym (ap needs was)) (λ is. was) (sym (ap is_past was)) c.args.self.now.sound
+      sound = marked_sound _ _ _ _ (record {
+        disk = refl;
+        failures = refl;
+        root = refl;
+        closed = refl;
+        holds = refl;
+      }) c.put_mark.ensures.marked (sym (ap needs was)) (λ is. was) (sym (ap is_past was)) c.args.self.now.sound
           (not_zero _ _ c.args.self.now.sound.system (waiting_apart _ was));
       blocks = c.put_mark.ensures.noted;
-      cached = carried _ _ _ _ c.args.self.now.cached (λ p held there. there) (λ h. h) (λ p held there. still_kept _ _ _ _ c.put_mark.ensures.marked refl p) (λ h p held there behind k within. refl);
+      unused = unused_marked _ _ _ _ _ _ c.args.self.now.unused c.put_mark.ensures.marked (omega arith)
+          (λ above. absurd (let no : Waiting ≡ Free = sym was ∙ c.args.self.now.unused.each c.args.page above here in cc));
+      cached = carried _ _ _ _ c.args.self.now.cached (λ p held there. there) (λ h. h)
+          (λ p held there. still_kept _ _ _ _ c.put_mark.ensures.marked refl p) (λ h p held there behind k within. refl);
     }
 
 pub returns-clause-works : goal.returns-clause-works
@@ -31,7 +41,8 @@ returns-clause-works g c =
     let here : c.args.page < length c.args.self.now.marks.items = omega (arith, c.if-page-len.false, c.len.ensures) in
     let found : c.index.result.now ≡ Waiting = search rules in
     let was : mark c.args.self.now.marks.items c.args.page ≡ Waiting = sym (c.index.ensures ∙ get_or_default _ _ _ Committed here) ∙ found in
-    marked_works _ _ _ _ (record { disk = refl; failures = refl; root = refl; closed = refl; holds = refl }) c.put_mark.ensures.marked (sym (ap needs was)) (λ is. was) (sym (ap is_past was))
+    marked_works _ _ _ _ (record { disk = refl; failures = refl; root = refl; closed = refl; holds = refl }) c.put_mark.ensures.marked
+    (sym (ap needs was)) (λ is. was) (sym (ap is_past was))
 
 pub returns-then-self-clause-ok : goal.returns-then-self-clause-ok
 returns-then-self-clause-ok g c = tt

@@ -1,11 +1,12 @@
-use Rattle.std.proofs.Common.{◌≡◌, ◌∙◌, List, ap, refl, sym}
+use Rattle.std.proofs.Common.{◌≡◌, ◌∙◌, List, ap, refl, sym, arith}
 use Rattle.page_store.specs.declared.marks.Mark.{Mark}
 use Rattle.page_store.specs.declared.marks.Mark.TheVariants.{Free}
 use Rattle.page_store.specs.Marks.{mark, needs, is_past}
-use Rattle.page_store.specs.aid.Works.{works_refl}
-use Rattle.page_store.proofs.Keeping.{marked_works, fresh_waits}
-use Rattle.page_store.proofs.Caching.{carried, still_kept}
-use Rattle.page_store.proofs.Passing.{not_closed}
+use Rattle.page_store.specs.lemmas.Works.{works_refl}
+use Rattle.page_store.proofs.Soundness.{marked_works, fresh_waits}
+use Rattle.page_store.proofs.CachedPages.{carried, still_kept}
+use Rattle.page_store.proofs.Exits.{not_closed}
+use Rattle.page_store.proofs.Unused.{unused_marked}
 use Rattle.page_store.proofs.store.PageStorePages.new_page.Goals as goal
 
 pub returns-then-self-clause-works : goal.returns-then-self-clause-works
@@ -16,11 +17,14 @@ returns-in-None-clause-works g c = works_refl _
 
 pub returns-clause-works : goal.returns-clause-works
 returns-clause-works g c =
-    let was : mark c.args.self.now.marks.items c.in-Some.page ≡ Free = ap (λ (ms : List Mark). mark ms c.in-Some.page) (sym c.deref.ensures.value) ∙ c.in-Some.ensures.free in
-    marked_works _ _ _ _ (record { disk = refl; failures = refl; root = refl; closed = refl; holds = refl }) c.put_mark.ensures.marked (sym (ap needs was)) (fresh_waits _) (sym (ap is_past was))
+    let was : mark c.args.self.now.marks.items c.in-Some.page ≡ Free = ap (λ (ms : List Mark). mark ms c.in-Some.page)
+    (sym c.deref.ensures.value) ∙ c.in-Some.ensures.free in
+    marked_works _ _ _ _ (record { disk = refl; failures = refl; root = refl; closed = refl; holds = refl }) c.put_mark.ensures.marked
+    (sym (ap needs was)) (fresh_waits _) (sym (ap is_past was))
 
 pub invariant_of-self-2-clause-cached : goal.invariant_of-self-2-clause-cached
-invariant_of-self-2-clause-cached g c = carried _ _ _ _ c.args.self.now.cached (λ p held there. there) (λ h. h) (λ p held there. still_kept _ _ _ _ c.put_mark.ensures.marked refl p) (λ h p held there behind k within. refl)
+invariant_of-self-2-clause-cached g c = carried _ _ _ _ c.args.self.now.cached (λ p held there. there) (λ h. h)
+    (λ p held there. still_kept _ _ _ _ c.put_mark.ensures.marked refl p) (λ h p held there behind k within. refl)
 
 pub returns-then-self-clause-ok : goal.returns-then-self-clause-ok
 returns-then-self-clause-ok g c = tt
@@ -90,3 +94,7 @@ returns-clause-closed g c = λ is. absurd (not_closed _ c.if-self.false is)
 
 pub returns-clause-others : goal.returns-clause-others
 returns-clause-others g c = record { disk = refl; failures = refl; root = refl; closed = refl; holds = refl }
+
+pub invariant_of-self-2-clause-unused : goal.invariant_of-self-2-clause-unused
+invariant_of-self-2-clause-unused g c =
+    unused_marked _ _ _ _ _ _ c.args.self.now.unused c.put_mark.ensures.marked (omega arith) (λ above. absurd (omega (arith, above)))

@@ -4,11 +4,12 @@ use Rattle.sector_disk.specs.Disk.{Shown, sector}
 use Rattle.page_store.specs.declared.marks.Mark.TheVariants.{Committed}
 use Rattle.page_store.specs.Marks.{mark, keeps}
 use Rattle.page_store.specs.Page.{HasSectors}
-use Rattle.page_store.specs.aid.Works.{works_refl}
-use Rattle.page_store.proofs.Caching.{carried, part_of, added, held_reads}
-use Rattle.page_store.proofs.Filling.{sectors_read}
-use Rattle.page_store.proofs.Keeping.{sound_works, works_read, was_honest}
-use Rattle.page_store.proofs.Passing.{passed_on, none_done, not_closed, unchanged_refl}
+use Rattle.page_store.specs.lemmas.Works.{works_refl}
+use Rattle.page_store.proofs.CachedPages.{carried, part_of, added, held_reads}
+use Rattle.page_store.proofs.PageSectors.{sectors_read}
+use Rattle.page_store.proofs.DiskReads.{only_disk, works_from_disk}
+use Rattle.page_store.proofs.Soundness.{sound_works, was_honest}
+use Rattle.page_store.proofs.Exits.{passed_on, none_done, not_closed, unchanged_refl}
 use Rattle.page_store.proofs.store.PageStorePages.read_page.Goals as goal
 
 pub returns-then-self-clause-works : goal.returns-then-self-clause-works
@@ -28,40 +29,43 @@ invariant_of-self-clause-cached g c = part_of _ c.args.self.now.cache c.give.new
 
 pub returns-in_err-get_page-clause-works : goal.returns-in_err-get_page-clause-works
 returns-in_err-get_page-clause-works g c =
-    works_read _ _ c.get_page.ensures.time c.get_page.ensures.same_size c.get_page.ensures.cause.later (record { root = refl; marks = refl; closed = refl; shown = c.get_page.ensures.unchanged; failed_writes = c.get_page.ensures.spared; leaves = c.get_page.ensures.moments; holds = refl })
+    works_from_disk _ _ _ c.get_page.ensures.read c.get_page.ensures.cause.later
 
 pub returns-then-is_kept-clause-works : goal.returns-then-is_kept-clause-works
 returns-then-is_kept-clause-works g c =
-    works_read _ _ c.get_page.ensures.time c.get_page.ensures.same_size c.get_page.ensures.cause.later (record { root = refl; marks = refl; closed = refl; shown = c.get_page.ensures.unchanged; failed_writes = c.get_page.ensures.spared; leaves = c.get_page.ensures.moments; holds = refl })
+    works_from_disk _ _ _ c.get_page.ensures.read c.get_page.ensures.cause.later
 
 pub returns-else-is_kept-clause-works : goal.returns-else-is_kept-clause-works
 returns-else-is_kept-clause-works g c =
-    works_read _ _ c.get_page.ensures.time c.get_page.ensures.same_size c.get_page.ensures.cause.later (record { root = refl; marks = refl; closed = refl; shown = c.get_page.ensures.unchanged; failed_writes = c.get_page.ensures.spared; leaves = c.get_page.ensures.moments; holds = refl })
+    works_from_disk _ _ _ c.get_page.ensures.read c.get_page.ensures.cause.later
 
 pub invariant_of-self-in-Break-1 : goal.invariant_of-self-in-Break-1
 invariant_of-self-in-Break-1 g c = record {
   sound = sound_works _ _ c.args.self.now.sound
-      (works_read _ _ c.get_page.ensures.time c.get_page.ensures.same_size c.get_page.ensures.cause.later (record { root = refl; marks = refl; closed = refl; shown = c.get_page.ensures.unchanged; failed_writes = c.get_page.ensures.spared; leaves = c.get_page.ensures.moments; holds = refl }))
+      (works_from_disk _ _ _ c.get_page.ensures.read c.get_page.ensures.cause.later)
       c.args.self.now.sound.system;
   blocks = c.args.self.now.blocks;
-  cached = carried _ _ _ _ c.args.self.now.cached c.give.ensures.others (was_honest c.get_page.ensures.time) (λ p held there kept. kept)
-      (λ h p held there behind k within. ap (λ (s : Shown). sector s.contents k) (c.get_page.ensures.unchanged h));
+  unused = c.args.self.now.unused;
+  cached = carried _ _ _ _ c.args.self.now.cached c.give.ensures.others (was_honest c.get_page.ensures.read.time) (λ p held there kept. kept)
+      (λ h p held there behind k within. ap (λ (s : Shown). sector s.contents k) (c.get_page.ensures.read.unchanged h));
 }
 
 pub invariant_of-self-else-is_kept-clause-cached : goal.invariant_of-self-else-is_kept-clause-cached
 invariant_of-self-else-is_kept-clause-cached g c =
-    carried _ _ _ _ c.args.self.now.cached c.give.ensures.others (was_honest c.get_page.ensures.time) (λ p held there kept. kept)
-    (λ h p held there behind k within. ap (λ (s : Shown). sector s.contents k) (c.get_page.ensures.unchanged h))
+    carried _ _ _ _ c.args.self.now.cached c.give.ensures.others (was_honest c.get_page.ensures.read.time) (λ p held there kept. kept)
+    (λ h p held there behind k within. ap (λ (s : Shown). sector s.contents k) (c.get_page.ensures.read.unchanged h))
 
 pub invariant_of-self-then-is_kept-clause-cached : goal.invariant_of-self-then-is_kept-clause-cached
 invariant_of-self-then-is_kept-clause-cached g c =
     let here : c.args.page < length c.args.self.now.marks.items = omega (arith, c.if-page-len.false, c.len.ensures) in
     let keeps_it : keeps (mark c.args.self.now.marks.items c.args.page) ≡ c.is_kept.result =
     sym (c.is_kept.ensures ∙ ap keeps (c.index.ensures ∙ get_or_default _ _ _ Committed here)) in
-    added _ _ _ _ _ _ (part_of _ c.args.self.now.cache c.give.new.self c.args.self.now.cached c.give.ensures.others) c.put-no_memory.ensures (was_honest c.get_page.ensures.time) refl
+    added _ _ _ _ _ _ (part_of _ c.args.self.now.cache c.give.new.self c.args.self.now.cached c.give.ensures.others) c.put-no_memory.ensures
+    (was_honest c.get_page.ensures.read.time) refl
     (omega (arith, c.if-page-eq0.false), here, keeps_it ∙ c.if-is_kept.true)
-    (λ h. subst (λ (s : Shown). HasSectors s.contents c.args.page c.get_page.new.into) (sym (c.get_page.ensures.unchanged h)) (c.in_ok-get_page.ensures.bytes h))
-    (λ h p other k within. ap (λ (s : Shown). sector s.contents k) (c.get_page.ensures.unchanged h))
+    (λ h. subst (λ (s : Shown). HasSectors s.contents c.args.page c.get_page.new.into) (sym (c.get_page.ensures.read.unchanged h))
+    (c.in_ok-get_page.ensures.bytes h))
+    (λ h p other k within. ap (λ (s : Shown). sector s.contents k) (c.get_page.ensures.read.unchanged h))
 
 pub returns-then-self-clause-bytes : goal.returns-then-self-clause-bytes
 returns-then-self-clause-bytes g c = λ honest. tt
@@ -143,7 +147,7 @@ returns-in_err-get_page-clause-open g c = none_done _ c.from_residual.result c.f
 
 pub returns-in_err-get_page-clause-unchanged : goal.returns-in_err-get_page-clause-unchanged
 returns-in_err-get_page-clause-unchanged g c =
-    record { root = refl; marks = refl; closed = refl; shown = c.get_page.ensures.unchanged; failed_writes = c.get_page.ensures.spared; leaves = c.get_page.ensures.moments; holds = refl }
+    only_disk _ _ _ c.get_page.ensures.read
 
 pub returns-in_err-get_page-clause-untouched : goal.returns-in_err-get_page-clause-untouched
 returns-in_err-get_page-clause-untouched g c = passed_on _ c.from_residual.result _ c.from_residual.ensures (λ other. absurd (other refl))
@@ -165,7 +169,7 @@ returns-then-is_kept-clause-open g c = c.if-self.false
 
 pub returns-then-is_kept-clause-unchanged : goal.returns-then-is_kept-clause-unchanged
 returns-then-is_kept-clause-unchanged g c =
-    record { root = refl; marks = refl; closed = refl; shown = c.get_page.ensures.unchanged; failed_writes = c.get_page.ensures.spared; leaves = c.get_page.ensures.moments; holds = refl }
+    only_disk _ _ _ c.get_page.ensures.read
 
 pub returns-then-is_kept-clause-untouched : goal.returns-then-is_kept-clause-untouched
 returns-then-is_kept-clause-untouched g c = tt
@@ -190,7 +194,7 @@ returns-else-is_kept-clause-open g c = c.if-self.false
 
 pub returns-else-is_kept-clause-unchanged : goal.returns-else-is_kept-clause-unchanged
 returns-else-is_kept-clause-unchanged g c =
-    record { root = refl; marks = refl; closed = refl; shown = c.get_page.ensures.unchanged; failed_writes = c.get_page.ensures.spared; leaves = c.get_page.ensures.moments; holds = refl }
+    only_disk _ _ _ c.get_page.ensures.read
 
 pub returns-else-is_kept-clause-untouched : goal.returns-else-is_kept-clause-untouched
 returns-else-is_kept-clause-untouched g c = tt

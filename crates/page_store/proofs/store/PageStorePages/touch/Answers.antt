@@ -1,4 +1,4 @@
-use Rattle.page_store.proofs.Caching.{part_of}
+use Rattle.page_store.proofs.CachedPages.{part_of}
 use Rattle.page_store.proofs.store.PageStorePages.touch.Goals as goal
 
 pub invariant_of-self-clause-cached : goal.invariant_of-self-clause-cached

@@ -22,9 +22,12 @@ pub invariant_of-result : goal.invariant_of-result
 invariant_of-result c =
     let game = game_of c.args.game.now in
     let all = take_all c.loop-variable.variable-index c.deref-variable-items.result.now (omega arith) in
-    let bounds = c.loop-variable.invariant ∙ ap (map (λ v. v.bound)) (all ∙ c.deref-variable-items.ensures.value) ∙ bounds_are c.args.game.now.variables.items in
-    let pieces : c.len-pieces.result ≡ length game.pieces = c.len-pieces.ensures ∙ c.args.game.now.pieces.ok.0 ∙ sym (length-map c.args.game.now.pieces.items _) in
-    let vertices : c.len-vertices.result ≡ length game.vertices = c.len-vertices.ensures ∙ c.args.game.now.vertices.ok.0 ∙ sym (length-map c.args.game.now.vertices.items _) in
+    let bounds = c.loop-variable.invariant ∙ ap (map (λ v. v.bound)) (all ∙ c.deref-variable-items.ensures.value)
+    ∙ bounds_are c.args.game.now.variables.items in
+    let pieces : c.len-pieces.result ≡ length game.pieces = c.len-pieces.ensures ∙ c.args.game.now.pieces.ok.0
+    ∙ sym (length-map c.args.game.now.pieces.items _) in
+    let vertices : c.len-vertices.result ≡ length game.vertices = c.len-vertices.ensures ∙ c.args.game.now.vertices.ok.0
+    ∙ sym (length-map c.args.game.now.vertices.items _) in
     let same = same_shape pieces bounds vertices c.action_count-actions.ensures in
     let greatest = ap (λ bs. greatest_of (shape c.len-pieces.result bs c.len-vertices.result c.action_count-actions.result)) c.deref.ensures.0 in (
       c.greatest_of-greatest.ensures ∙ greatest,
@@ -41,7 +44,10 @@ pub returns : goal.returns
 returns c =
     let game = game_of c.args.game.now in
     let all = take_all c.loop-variable.variable-index c.deref-variable-items.result.now (omega arith) in
-    let bounds = c.loop-variable.invariant ∙ ap (map (λ v. v.bound)) (all ∙ c.deref-variable-items.ensures.value) ∙ bounds_are c.args.game.now.variables.items in
-    let pieces : c.len-pieces.result ≡ length game.pieces = c.len-pieces.ensures ∙ c.args.game.now.pieces.ok.0 ∙ sym (length-map c.args.game.now.pieces.items _) in
-    let vertices : c.len-vertices.result ≡ length game.vertices = c.len-vertices.ensures ∙ c.args.game.now.vertices.ok.0 ∙ sym (length-map c.args.game.now.vertices.items _) in
+    let bounds = c.loop-variable.invariant ∙ ap (map (λ v. v.bound)) (all ∙ c.deref-variable-items.ensures.value)
+    ∙ bounds_are c.args.game.now.variables.items in
+    let pieces : c.len-pieces.result ≡ length game.pieces = c.len-pieces.ensures ∙ c.args.game.now.pieces.ok.0
+    ∙ sym (length-map c.args.game.now.pieces.items _) in
+    let vertices : c.len-vertices.result ≡ length game.vertices = c.len-vertices.ensures ∙ c.args.game.now.vertices.ok.0
+    ∙ sym (length-map c.args.game.now.vertices.items _) in
     ap (λ s. form c.args.kind s) (same_shape pieces bounds vertices c.action_count-actions.ensures)

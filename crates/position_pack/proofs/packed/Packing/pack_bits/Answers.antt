@@ -3,7 +3,7 @@ use Rattle.std.specs.List.{flat_map, sum_by}
 use Rattle.std.proofs.lemmas.List.{length-append}
 use Rattle.position_pack.specs.Fields.{role_code}
 use Rattle.position_pack.specs.Bits.{width, bits_of, field_bits, bytes_of_bits, bytes_by_bits}
-use Rattle.position_pack.specs.aid.Streams.{written}
+use Rattle.position_pack.specs.lemmas.Streams.{written}
 use Rattle.position_pack.proofs.BitLemmas.{length-bits}
 use Rattle.position_pack.proofs.ShapeLemmas.{shape}
 use Rattle.position_pack.proofs.PartFields.{few_bits}
@@ -149,7 +149,27 @@ finish-requires-clause-room c =
     let place : c.width_of-2.result ≡ width s.actions = c.width_of-2.ensures.is ∙ ap width c.from-6.ensures in
     let fifth = ap length c.put-3.ensures.bits ∙ length-append (written c.put-2.new.writer) (bits_of c.width_of-2.result c.from-7.result) in
     let fifth_long = length-bits c.width_of-2.result c.from-7.result in
-    omega (arith, most, parts, none, product, first, all, bounds, second, values, vertex, third, third_long, role, fourth, fourth_long, place, fifth, fifth_long)
+    omega (
+      arith,
+      most,
+      parts,
+      none,
+      product,
+      first,
+      all,
+      bounds,
+      second,
+      values,
+      vertex,
+      third,
+      third_long,
+      role,
+      fourth,
+      fourth_long,
+      place,
+      fifth,
+      fifth_long,
+    )
 
 pub returns : goal.returns
 returns c =

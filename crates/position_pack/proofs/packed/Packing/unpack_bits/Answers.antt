@@ -7,7 +7,7 @@ use Rattle.position_pack.specs.Shape.{Shape}
 use Rattle.position_pack.specs.Fields.{fields_of}
 use Rattle.position_pack.specs.Bits.{width, greatest_of}
 use Rattle.position_pack.specs.Packings.{IsPacked}
-use Rattle.position_pack.specs.aid.Bits.{AreFields, AreInRange, IsFieldsOf}
+use Rattle.position_pack.specs.lemmas.Bits.{AreFields, AreInRange, IsFieldsOf}
 use Rattle.position_pack.proofs.ShapeLemmas.{shape}
 use Rattle.position_pack.proofs.PackingLemmas.{as_many}
 use Rattle.position_pack.proofs.PartFields.{few_fields, are_fields, is_packed}
@@ -49,7 +49,8 @@ returns-then-not-take_fields c = λ at is.
 pub position_of-requires : goal.position_of-requires
 position_of-requires c =
     let greatest = c.deref-2.ensures.0 ∙ c.self.inside.greatest_are in
-    let are : AreFields c.deref-2.result.now c.args.bytes.now c.take_fields.new.fields.items = when_true _ _ c.take_fields.result c.if-not-take_fields.false c.take_fields.ensures in
+    let are : AreFields c.deref-2.result.now c.args.bytes.now c.take_fields.new.fields.items =
+    when_true _ _ c.take_fields.result c.if-not-take_fields.false c.take_fields.ensures in
     let there = subst (λ g. AreFields g c.args.bytes.now c.take_fields.new.fields.items) greatest are in
     let few = few_fields _ c.take_fields.new.fields.items c.self.inside.small there.within in
     subst (λ n. AreInRange n c.deref-3.result.now) (sym c.from.ensures) (subst (AreInRange c.self.inside.vertices) (sym c.deref-3.ensures.0) few)
@@ -58,8 +59,10 @@ pub returns : goal.returns
 returns c =
     let view = ap (λ f. f.shape) c.self.view_is in
     let greatest = c.deref-2.ensures.0 ∙ c.self.inside.greatest_are in
-    let are : AreFields c.deref-2.result.now c.args.bytes.now c.take_fields.new.fields.items = when_true _ _ c.take_fields.result c.if-not-take_fields.false c.take_fields.ensures in
+    let are : AreFields c.deref-2.result.now c.args.bytes.now c.take_fields.new.fields.items =
+    when_true _ _ c.take_fields.result c.if-not-take_fields.false c.take_fields.ensures in
     let there = subst (λ g. AreFields g c.args.bytes.now c.take_fields.new.fields.items) greatest are in
     read (IsFieldsOf c.from.result c.deref-3.result.now) _ _ c.position_of.result c.position_of.ensures
-    (λ at of_at. subst (λ s. ByBits c.args.bytes.now s at) view (is_packed _ at c.args.bytes.now c.take_fields.new.fields.items c.self.inside.some_pieces c.self.inside.some_vertices there
+    (λ at of_at. subst (λ s. ByBits c.args.bytes.now s at) view
+    (is_packed _ at c.args.bytes.now c.take_fields.new.fields.items c.self.inside.some_pieces c.self.inside.some_vertices there
     (subst (λ n. IsFieldsOf n c.take_fields.new.fields.items at) c.from.ensures (subst (λ xs. IsFieldsOf c.from.result xs at) c.deref-3.ensures.0 of_at))))

@@ -1,6 +1,6 @@
 use Rattle.std.proofs.Common.{◌≡◌, ◌++◌, map, ap, sym, ◌∙◌}
 use Rattle.rbg_text.specs.Said.{declaration_view, vertex_view}
-use Rattle.rbg_read.specs.aid.Parts.{labels_in}
+use Rattle.rbg_read.specs.lemmas.Parts.{labels_in}
 use Rattle.rbg_read.proofs.Lists.{map_map}
 use Rattle.rbg_read.proofs.names.Names.of.Goals as goal
 

@@ -1,9 +1,9 @@
 use Rattle.std.proofs.Common.{◌≡◌, ◌-◌, [], ◌∷◌, ◌++◌, length, ap, subst, append-nil}
 use Rattle.rbg_text.specs.Token.{Gap}
 use Rattle.rbg_text.specs.View.{token_view}
-use Rattle.rbg_text.proofs.Splitting.{whole_stray}
+use Rattle.rbg_text.proofs.Splits.{whole_stray}
 use Rattle.rbg_read.specs.Placed.{Stand}
-use Rattle.rbg_read.proofs.Placing.{stands, one_more_placed, lexed_more}
+use Rattle.rbg_read.proofs.TokenPlaces.{stands, one_more_placed, lexed_more}
 use Rattle.rbg_read.proofs.numbered.lexemes.lexemes.Goals as goal
 
 pub returns-in_err-token-clause-stray : goal.returns-in_err-token-clause-stray

@@ -1,6 +1,6 @@
 use Rattle.std.proofs.Common.{◌≡◌, ◌+◌, List, ◌++◌, length, drop}
 use Rattle.rbg_text.specs.Lex.{lex}
-use Rattle.rbg_text.specs.aid.View.{with_front}
+use Rattle.rbg_text.specs.lemmas.View.{with_front}
 use Rattle.rbg_read.specs.declared.numbered.lexemes.Lexeme.{Lexeme}
 use Rattle.rbg_read.specs.Placed.{Stand}
 use Rattle.rbg_read.specs.Tokens.{tokens_of}

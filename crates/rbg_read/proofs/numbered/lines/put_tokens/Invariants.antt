@@ -1,6 +1,6 @@
 use Rattle.std.proofs.Common.{◌≡◌, ◌++◌, take}
 use Rattle.std.specs.List.{flat_map}
-use Rattle.rbg_read.specs.aid.Lines.{with_gap}
+use Rattle.rbg_read.specs.lemmas.Lines.{with_gap}
 use Rattle.rbg_read.proofs.numbered.lines.put_tokens.Given as goal
 
 abbrev pub invariant-loop-token : goal.invariant-loop-token

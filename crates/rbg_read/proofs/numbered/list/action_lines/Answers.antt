@@ -1,4 +1,4 @@
-use Rattle.rbg_read.proofs.Cutting.{sections_of}
+use Rattle.rbg_read.proofs.Stretches.{sections_of}
 use Rattle.rbg_read.proofs.numbered.list.action_lines.Goals as goal
 
 pub lines_of_actions-requires : goal.lines_of_actions-requires

@@ -2,7 +2,7 @@ use Rattle.std.proofs.Common.{map, ap, subst, ◌∙◌}
 use Rattle.rbg_read.specs.Listed.{AreActionLines}
 use Rattle.rbg_read.specs.Tokens.{cut_of}
 use Rattle.rbg_read.specs.Written.{spots_of}
-use Rattle.rbg_read.proofs.Showing.{map_ok}
+use Rattle.rbg_read.proofs.ActionLines.{map_ok}
 use Rattle.rbg_read.proofs.numbered.list.lines_among.Goals as goal
 
 pub lines_of-requires-clause-cut : goal.lines_of-requires-clause-cut

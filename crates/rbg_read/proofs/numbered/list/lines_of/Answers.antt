@@ -3,8 +3,8 @@ use Rattle.std.proofs.lemmas.List.{length-map, take_all, get_or_default}
 use Rattle.rbg_read.specs.declared.numbered.stretches.Stretch.{Stretch}
 use Rattle.rbg_read.specs.Listed.{AreActionLines}
 use Rattle.rbg_read.specs.Tokens.{cut_of}
-use Rattle.rbg_read.proofs.Cutting.{each_begins}
-use Rattle.rbg_read.proofs.Showing.{one_line_more}
+use Rattle.rbg_read.proofs.Stretches.{each_begins}
+use Rattle.rbg_read.proofs.ActionLines.{one_line_more}
 use Rattle.rbg_read.proofs.numbered.list.lines_of.Goals as goal
 
 pub put_action-requires-clause-some : goal.put_action-requires-clause-some

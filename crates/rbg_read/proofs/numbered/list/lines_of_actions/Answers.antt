@@ -1,6 +1,6 @@
 use Rattle.std.proofs.Common.{sym, subst}
 use Rattle.rbg_read.specs.Placed.{Stand}
-use Rattle.rbg_read.proofs.Cutting.{spelled_by}
+use Rattle.rbg_read.proofs.Stretches.{spelled_by}
 use Rattle.rbg_read.proofs.numbered.list.lines_of_actions.Goals as goal
 
 pub lines_among-requires-clause-spelled : goal.lines_among-requires-clause-spelled

@@ -1,4 +1,4 @@
-use Rattle.rbg_read.proofs.Showing.{line_put}
+use Rattle.rbg_read.proofs.ActionLines.{line_put}
 use Rattle.rbg_read.proofs.numbered.list.put_line.Goals as goal
 
 pub returns : goal.returns

@@ -1,7 +1,7 @@
 use Rattle.std.proofs.Common.{◌≡◌, [], ◌++◌, map, drop, subst, arith}
 use Rattle.std.proofs.lemmas.List.{drop_all}
 use Rattle.rbg_read.specs.Tokens.{tokens_of, cut_of}
-use Rattle.rbg_read.specs.aid.Walk.{elsewhere, within_at, found_from}
+use Rattle.rbg_read.specs.lemmas.Walk.{elsewhere, within_at, found_from}
 use Rattle.rbg_read.proofs.Steps.{all_walked}
 use Rattle.rbg_read.proofs.numbered.stretches.numbered_actions.Goals as goal
 

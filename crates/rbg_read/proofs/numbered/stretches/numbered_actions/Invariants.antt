@@ -1,7 +1,7 @@
 use Rattle.std.proofs.Common.{◌≡◌, ◌≤◌, ◌++◌, map, length}
 use Rattle.std.specs.Prelude.{All}
 use Rattle.rbg_read.specs.Tokens.{tokens_of, tokens_from, cut_of}
-use Rattle.rbg_read.specs.aid.Walk.{elsewhere, within_at, depth_of, found_from}
+use Rattle.rbg_read.specs.lemmas.Walk.{elsewhere, within_at, depth_of, found_from}
 use Rattle.rbg_read.proofs.numbered.stretches.numbered_actions.Given as goal
 
 abbrev pub invariant-loop-place : goal.invariant-loop-place

@@ -1,4 +1,4 @@
-use Rattle.rbg_read.proofs.Passing.{none_answered}
+use Rattle.rbg_read.proofs.Exits.{none_answered}
 use Rattle.rbg_read.proofs.parts.Sections.add.Goals as goal
 
 pub returns-in_err-push-in-Players : goal.returns-in_err-push-in-Players

@@ -12,4 +12,5 @@ returns c =
       vertices = c.in_ok-only-3.field-0;
       steps = c.in_ok-only-4.field-0;
     } in
-    parts_made c.args.self parts (sym c.in_ok-only.ensures) (sym c.in_ok-only-2.ensures) (sym c.in_ok-at_most_one.ensures) (sym c.in_ok-only-3.ensures) (sym c.in_ok-only-4.ensures)
+    parts_made c.args.self parts (sym c.in_ok-only.ensures) (sym c.in_ok-only-2.ensures) (sym c.in_ok-at_most_one.ensures)
+    (sym c.in_ok-only-3.ensures) (sym c.in_ok-only-4.ensures)

@@ -1,7 +1,7 @@
 use Rattle.std.proofs.Common.{◌≡◌, [], refl, ◌∙◌, ap, arith}
 use Rattle.std.proofs.lemmas.Grind.{common_steps}
 use Rattle.rbg_text.specs.Lex.{skip}
-use Rattle.rbg_text.proofs.Splitting.{lex_end, step_some, step_shorter, step_stray, step_takes, step_gap, stray_here}
+use Rattle.rbg_text.proofs.Splits.{lex_end, step_some, step_shorter, step_stray, step_takes, step_gap, stray_here}
 use Rattle.rbg_text.proofs.lexer.Lexer.next_token.Goals as goal
 
 pub returns-then-is_empty-clause-none : goal.returns-then-is_empty-clause-none

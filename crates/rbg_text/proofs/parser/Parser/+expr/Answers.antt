@@ -1,6 +1,6 @@
 use Rattle.std.proofs.Common.{rules, ◌-◌, arith}
 use Rattle.std.proofs.lemmas.Grind.{common_steps}
-use Rattle.rbg_text.specs.aid.Parse.{factors, terms, expr}
+use Rattle.rbg_text.specs.lemmas.Parse.{factors, terms, expr}
 use Rattle.rbg_text.proofs.Turns.{one_more}
 use Rattle.rbg_text.proofs.parser.Parser.+expr.Goals as goal
 use Rattle.rbg_text.proofs.parser.Parser.+expr.Goals.{expr-then-eat, expr-else-eat+then-eat-2}

@@ -1,5 +1,5 @@
 use Rattle.std.proofs.Common.{◌≡◌, ◌+◌, ◌-◌, ◌*◌}
-use Rattle.rbg_text.specs.aid.Parse.{term, factors, terms, expr}
+use Rattle.rbg_text.specs.lemmas.Parse.{term, factors, terms, expr}
 use Rattle.rbg_text.proofs.parser.Parser.+expr.Given as goal
 
 abbrev pub decreases-expr : goal.decreases-expr

@@ -1,5 +1,5 @@
 use Rattle.std.proofs.Common.{◌≡◌, ◌+◌, ◌-◌, ◌*◌}
-use Rattle.rbg_text.specs.aid.Parse.{expr, concat, elements, branches, rules_to}
+use Rattle.rbg_text.specs.lemmas.Parse.{expr, concat, elements, branches, rules_to}
 use Rattle.rbg_text.proofs.parser.Parser.+rules.Given as goal
 
 abbrev pub decreases-rules : goal.decreases-rules

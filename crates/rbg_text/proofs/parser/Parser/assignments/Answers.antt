@@ -1,6 +1,6 @@
 use Rattle.std.proofs.Common.{rules, arith}
 use Rattle.std.proofs.lemmas.Grind.{common_steps}
-use Rattle.rbg_text.specs.aid.Parse.{assignments, expr}
+use Rattle.rbg_text.specs.lemmas.Parse.{assignments, expr}
 use Rattle.rbg_text.proofs.Turns.{one_more}
 use Rattle.rbg_text.proofs.parser.Parser.assignments.Goals as goal
 

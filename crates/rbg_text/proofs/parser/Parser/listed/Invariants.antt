@@ -1,5 +1,5 @@
 use Rattle.std.proofs.Common.{◌≡◌, ◌-◌, map}
-use Rattle.rbg_text.specs.aid.ParseSections.{items, listed}
+use Rattle.rbg_text.specs.lemmas.ParseSections.{items, listed}
 use Rattle.rbg_text.proofs.parser.Parser.listed.Given as goal
 
 abbrev pub invariant-loop-turn : goal.invariant-loop-turn

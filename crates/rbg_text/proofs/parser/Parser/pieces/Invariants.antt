@@ -1,5 +1,5 @@
 use Rattle.std.proofs.Common.{◌≡◌, ◌-◌}
-use Rattle.rbg_text.specs.aid.Parse.{turns, pieces}
+use Rattle.rbg_text.specs.lemmas.Parse.{turns, pieces}
 use Rattle.rbg_text.proofs.parser.Parser.pieces.Given as goal
 
 abbrev pub invariant-loop-turn : goal.invariant-loop-turn

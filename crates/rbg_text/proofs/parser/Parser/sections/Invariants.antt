@@ -1,6 +1,6 @@
 use Rattle.std.proofs.Common.{◌≡◌, ◌-◌, [], map}
-use Rattle.rbg_text.specs.aid.Parse.{turns}
-use Rattle.rbg_text.specs.aid.ParseSections.{sections}
+use Rattle.rbg_text.specs.lemmas.Parse.{turns}
+use Rattle.rbg_text.specs.lemmas.ParseSections.{sections}
 use Rattle.rbg_text.specs.Said.{section_view}
 use Rattle.rbg_text.proofs.parser.Parser.sections.Given as goal
 

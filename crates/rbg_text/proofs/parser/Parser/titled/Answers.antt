@@ -1,12 +1,12 @@
 use Rattle.std.proofs.Common.{ℕ, List, map, Vec, Global, Bor, ap, sym, ◌∙◌}
 use Rattle.rbg_text.specs.Said.{players, pieces, variables, board, rules, declaration_view, vertex_view, section_view}
 use Rattle.rbg_text.specs.View.{step_view}
-use Rattle.rbg_text.specs.aid.Parse.{and_then}
+use Rattle.rbg_text.specs.lemmas.Parse.{and_then}
 use Rattle.rbg_text.specs.declared.sections.Declaration.{Declaration}
 use Rattle.rbg_text.specs.declared.sections.Vertex.{Vertex}
 use Rattle.rbg_text.specs.declared.parser.Step.{Step}
-use Rattle.rbg_text.specs.aid.ParseSections.{give}
-use Rattle.rbg_text.proofs.Passing.{err_on}
+use Rattle.rbg_text.specs.lemmas.ParseSections.{give}
+use Rattle.rbg_text.proofs.Exits.{err_on}
 use Rattle.rbg_text.proofs.Titles.{players_by, pieces_by, variables_by, board_by, rules_by, none_by}
 use Rattle.rbg_text.proofs.parser.Parser.titled.Goals as goal
 

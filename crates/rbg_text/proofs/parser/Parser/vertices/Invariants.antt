@@ -1,5 +1,5 @@
 use Rattle.std.proofs.Common.{◌≡◌, ◌-◌, map}
-use Rattle.rbg_text.specs.aid.ParseSections.{vertices, all_vertices}
+use Rattle.rbg_text.specs.lemmas.ParseSections.{vertices, all_vertices}
 use Rattle.rbg_text.specs.Said.{vertex_view}
 use Rattle.rbg_text.proofs.parser.Parser.vertices.Given as goal
 

@@ -1,5 +1,5 @@
 use Rattle.std.proofs.Common.{rules, arith, ◌≡◌, length}
-use Rattle.sector_disk.specs.aid.Moments.{extends_failed}
+use Rattle.sector_disk.specs.lemmas.Moments.{extends_failed}
 use Rattle.sector_disk.proofs.Kept.{kept_extend, longer}
 use Rattle.sector_disk.proofs.memory.MemDiskSectorDisk.extend.Goals as goal
 

@@ -3,7 +3,7 @@ use Rattle.std.specs.Io.KnownBytes.{Appends}
 use Rattle.legal_moves.specs.Compiled.{compiled_game}
 use Rattle.session_lines.specs.Answers.{TellsMoves}
 use Rattle.session_lines.specs.Parts.{AppendsPart, IsWritten}
-use Rattle.session_lines.specs.aid.Stops.{IsStopped}
+use Rattle.session_lines.specs.lemmas.Stops.{IsStopped}
 use Rattle.session_lines.proofs.AnswerLemmas.{refused_behind}
 use Rattle.session_lines.proofs.rulebook.Rulebook.put_moves.Goals as goal
 
@@ -17,7 +17,7 @@ returns-in-Err-Refused g c =
     let told = c.in-Err-Refused.ensures in
     let moved = subst (λ s. IsStopped (compiled_game s) at Written Part c.in-Err-Refused.field-0) c.self.view_is told.stopped in
     let stopped = subst (IsStopped game at Written Part) c.in-Err-Refused.field-0-is moved in
-    refused_behind game at c.in-Err-Refused.refused stopped.0 c.write_refused.result stopped.1 stopped.2 c.write_refused.ensures
+    refused_behind game at c.in-Err-Refused.fault stopped.0 c.write_refused.result stopped.1 stopped.2 c.write_refused.ensures
 
 pub returns-in-Ok : goal.returns-in-Ok
 returns-in-Ok g c =

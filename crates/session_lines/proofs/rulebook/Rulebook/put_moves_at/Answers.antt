@@ -10,8 +10,10 @@ put_moves-requires g c = subst (λ it. IsPositionOf it c.in-Some.at) (c.game.ens
 
 pub returns-in-Some : goal.returns-in-Some
 returns-in-Some g c =
-    spelled_of (compiled_game c.args.self.now) (game_of c.game.result.now) c.args.position.now c.in-Some.at c.put_moves.result _ _ (c.game.ensures ∙ ap (λ s. compiled_game s) c.self.view_is) c.in-Some.ensures c.put_moves.ensures
+    spelled_of (compiled_game c.args.self.now) (game_of c.game.result.now) c.args.position.now c.in-Some.at c.put_moves.result _ _
+    (c.game.ensures ∙ ap (λ s. compiled_game s) c.self.view_is) c.in-Some.ensures c.put_moves.ensures
 
 pub returns-in-None : goal.returns-in-None
 returns-in-None g c =
-    unspelled_of (compiled_game c.args.self.now) (game_of c.game.result.now) c.args.position.now c.write_refused.result _ _ (c.game.ensures ∙ ap (λ s. compiled_game s) c.self.view_is) c.in-None.ensures c.write_refused.ensures
+    unspelled_of (compiled_game c.args.self.now) (game_of c.game.result.now) c.args.position.now c.write_refused.result _ _
+    (c.game.ensures ∙ ap (λ s. compiled_game s) c.self.view_is) c.in-None.ensures c.write_refused.ensures

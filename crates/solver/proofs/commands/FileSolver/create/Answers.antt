@@ -1,5 +1,5 @@
 use Rattle.std.proofs.lemmas.Result.{IfErr-weaker}
-use Rattle.solver.proofs.Opening.{created_with, created_back, no_game_created, create_cause}
+use Rattle.solver.proofs.Opened.{created_with, created_back, no_game_created, create_cause}
 use Rattle.solver.proofs.commands.FileSolver.create.Goals as goal
 
 pub returns-in-Ok-clause-created : goal.returns-in-Ok-clause-created

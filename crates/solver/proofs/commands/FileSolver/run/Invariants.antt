@@ -1,7 +1,6 @@
 use Rattle.std.proofs.Common.{◌≡◌, ◌+◌, ◌-◌, ◌≤◌, length, take}
-use Rattle.std.specs.Prelude.{IsTrue}
 use Rattle.std.specs.Vec.{vec_len, vec_capacity}
-use Rattle.solver.specs.Held.{IsSound}
+use Rattle.solver.specs.Frames.{IsLeft}
 use Rattle.solver.specs.Runs.{IsRun}
 use Rattle.game_file.specs.State.{GoesAhead}
 use Rattle.solver.specs.Solvers.{state, IsReady}
@@ -12,10 +11,7 @@ invariant-loop-command g l =
     record {
       room : vec_len l.replies + (length l.fn.commands - l.command-index) ≤ vec_capacity l.replies;
       many : length l.replies.items ≡ length l.fn.replies.items + l.command-index;
-      ready : IsReady l.fn.self → IsReady l.self;
-      ahead : GoesAhead (state l.fn.self) (state l.self);
-      lasts : g.F.GameFile.lasts l.fn.self.file l.self.file;
-      sound : IsReady l.fn.self → IsTrue (state l.fn.self).disk.honest → IsSound (state l.fn.self).kept → IsSound (state l.self).kept;
+      left : IsLeft l.fn.self l.self GoesAhead;
       run : IsReady l.fn.self
           → IsRun g.F.GameFile.stores (take l.command-index l.fn.commands) l.fn.replies.items l.replies.items (state l.fn.self) (state l.self);
     }

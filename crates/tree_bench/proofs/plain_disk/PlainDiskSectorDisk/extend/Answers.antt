@@ -1,6 +1,6 @@
 use Rattle.std.proofs.Common.{arith}
-use Rattle.sector_disk.specs.aid.Moments.{extends_failed}
-use Rattle.sector_disk.specs.aid.Unknown.{unknown_extends}
+use Rattle.sector_disk.specs.lemmas.Moments.{extends_failed}
+use Rattle.sector_disk.specs.lemmas.Unknown.{unknown_extends}
 use Rattle.tree_bench.proofs.plain_disk.PlainDiskSectorDisk.extend.Goals as goal
 
 pub returns-clause-time : goal.returns-clause-time

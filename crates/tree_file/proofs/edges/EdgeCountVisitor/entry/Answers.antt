@@ -1,6 +1,6 @@
 use Rattle.std.proofs.Common.{◌≡◌, ℕ, ◌<◌, ◌^◌, ◌+◌, [], ◌∷◌, ◌++◌, rules, subst}
 use Rattle.tree_table.specs.Entries.{edge_key}
-use Rattle.tree_file.specs.aid.Told.{AreTallied}
+use Rattle.tree_file.specs.lemmas.Told.{AreTallied}
 use Rattle.tree_file.proofs.Told.{tally_more}
 use Rattle.tree_file.proofs.edges.EdgeCountVisitor.entry.Goals as goal
 

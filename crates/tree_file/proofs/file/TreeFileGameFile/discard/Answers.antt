@@ -1,11 +1,11 @@
 use Rattle.std.proofs.Common.{refl, ◌∙◌, inl, inr}
-use Rattle.game_file.specs.aid.Free.{given_up_free}
+use Rattle.game_file.specs.lemmas.Free.{given_up_free}
 use Rattle.tree_table.specs.InTrees.{work_in}
 use Rattle.tree_file.specs.File.{file_of}
-use Rattle.tree_file.specs.aid.Backed.{IsBackedFile, backed_still}
-use Rattle.tree_file.specs.aid.Whole.{fails_for_later}
+use Rattle.tree_file.specs.lemmas.Backed.{IsBackedFile, backed_still}
+use Rattle.tree_file.specs.lemmas.Whole.{fails_for_later}
 use Rattle.tree_file.specs.InFile.{file_in}
-use Rattle.tree_file.proofs.Saving.{again_ahead, given_up_kept, given_up_whole}
+use Rattle.tree_file.proofs.Commits.{again_ahead, given_up_kept, given_up_whole}
 use Rattle.tree_file.proofs.file.TreeFileGameFile.discard.Goals as goal
 
 pub invariant_of-self : goal.invariant_of-self

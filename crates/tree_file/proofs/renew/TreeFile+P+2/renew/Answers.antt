@@ -5,8 +5,8 @@ use Rattle.game_file.specs.State.{count_behind}
 use Rattle.tree_table.specs.Held.{StoresTrees}
 use Rattle.tree_file.specs.File.{state_of}
 use Rattle.tree_file.specs.InFile.{file_in}
-use Rattle.tree_file.specs.Moving.{IsMoved, IsNotMoved, LeavesPages}
-use Rattle.tree_file.proofs.Renewing.{moved, moved_pages, named_anew, no_goal, not_moved}
+use Rattle.tree_file.specs.MoveCauses.{IsMoved, IsNotMoved, LeavesPages}
+use Rattle.tree_file.proofs.Renewal.{moved, moved_pages, named_anew, no_goal, not_moved}
 use Rattle.tree_file.proofs.renew.TreeFile+P+2.renew.Goals as goal
 
 pub returns-in-Ok-clause-moved : goal.returns-in-Ok-clause-moved

@@ -1,10 +1,10 @@
 use Rattle.std.proofs.Common.{refl}
 use Rattle.tree_table.specs.InTrees.{work_in}
-use Rattle.tree_table.specs.aid.Standing.{works_still}
+use Rattle.tree_table.specs.lemmas.StandingTable.{works_still}
 use Rattle.tree_file.specs.File.{file_of}
 use Rattle.tree_file.specs.InFile.{file_in}
-use Rattle.tree_file.specs.aid.Backed.{IsBackedFile, backed_still}
-use Rattle.tree_file.specs.aid.Frames.{stays_here}
+use Rattle.tree_file.specs.lemmas.Backed.{IsBackedFile, backed_still}
+use Rattle.tree_file.specs.lemmas.Frames.{stays_here}
 use Rattle.tree_file.proofs.Versions.{read_faulted, read_not}
 use Rattle.tree_file.proofs.version.TreeFileVersions.record_of.Goals as goal
 
@@ -26,7 +26,8 @@ returns-clause-record g c = λ honest table it. c.kept_record.ensures.«record»
 pub returns-clause-cause : goal.returns-clause-cause
 returns-clause-cause g c = λ table it low.
     let self = c.args.self.now in
-    read_not c.args.version.now.hold.place c.args.version.now.slot table (file_of (work_in self.table) self.game) (file_of (work_in c.kept_record.new.self) self.game) it
+    read_not c.args.version.now.hold.place c.args.version.now.slot table (file_of (work_in self.table) self.game)
+    (file_of (work_in c.kept_record.new.self) self.game) it
     c.kept_record.result c.kept_record.ensures.cause
 
 pub returns-clause-fault : goal.returns-clause-fault

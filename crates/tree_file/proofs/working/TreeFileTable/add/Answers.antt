@@ -2,10 +2,10 @@ use Rattle.std.proofs.Common.{◌≡◌, refl}
 use Rattle.page_store.specs.Store.{StoreWorks}
 use Rattle.tree_file.specs.File.{file_of}
 use Rattle.tree_table.specs.InTrees.{work_in}
-use Rattle.tree_table.specs.Working.{WorkGoesOn, WorkFails}
-use Rattle.tree_file.specs.aid.Backed.{IsBackedFile, backed_still}
-use Rattle.tree_file.proofs.Passing.{either_way, files_fail, files_on}
-use Rattle.tree_table.specs.aid.Standing.{works_still}
+use Rattle.tree_table.specs.WorkTable.{WorkGoesOn, WorkFails}
+use Rattle.tree_file.specs.lemmas.Backed.{IsBackedFile, backed_still}
+use Rattle.tree_file.proofs.Exits.{either_way, files_fail, files_on}
+use Rattle.tree_table.specs.lemmas.StandingTable.{works_still}
 use Rattle.tree_file.proofs.working.TreeFileTable.add.Goals as goal
 
 pub invariant_of-self : goal.invariant_of-self

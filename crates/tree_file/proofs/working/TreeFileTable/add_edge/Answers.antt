@@ -2,10 +2,10 @@ use Rattle.std.proofs.Common.{◌≡◌, refl}
 use Rattle.page_store.specs.Store.{StoreWorks}
 use Rattle.tree_file.specs.File.{file_of}
 use Rattle.tree_table.specs.InTrees.{work_in}
-use Rattle.tree_table.specs.Working.{WorkGoesOn, WorkFails}
-use Rattle.tree_file.specs.aid.Backed.{IsBackedFile, backed_still}
-use Rattle.tree_file.proofs.Passing.{on_ok, either_way, files_fail}
-use Rattle.tree_table.specs.aid.Standing.{works_still}
+use Rattle.tree_table.specs.WorkTable.{WorkGoesOn, WorkFails}
+use Rattle.tree_file.specs.lemmas.Backed.{IsBackedFile, backed_still}
+use Rattle.tree_file.proofs.Exits.{on_ok, either_way, files_fail}
+use Rattle.tree_table.specs.lemmas.StandingTable.{works_still}
 use Rattle.tree_file.proofs.working.TreeFileTable.add_edge.Goals as goal
 
 pub invariant_of-self : goal.invariant_of-self
@@ -22,7 +22,8 @@ invariant_of-self g c =
     record { of_layout = is.of_layout; counted = is.counted; sized = is.sized; sealed = is.sealed; stands = is.stands }
 
 pub returns-clause-fault : goal.returns-clause-fault
-returns-clause-fault g c = files_fail c.add_edge.result (work_in c.args.self.now.table) (work_in c.add_edge.new.self) c.args.self.now.game c.add_edge.ensures.fault
+returns-clause-fault g c = files_fail c.add_edge.result (work_in c.args.self.now.table)
+    (work_in c.add_edge.new.self) c.args.self.now.game c.add_edge.ensures.fault
 
 pub returns-clause-wrote : goal.returns-clause-wrote
 returns-clause-wrote g c =

@@ -1,9 +1,9 @@
 use Rattle.std.proofs.Common.{refl}
 use Rattle.tree_file.specs.File.{file_of}
 use Rattle.tree_table.specs.InTrees.{work_in}
-use Rattle.tree_file.specs.aid.Backed.{IsBackedFile, backed_still}
-use Rattle.tree_table.specs.aid.Standing.{works_still}
-use Rattle.tree_file.proofs.Passing.{files_fail}
+use Rattle.tree_file.specs.lemmas.Backed.{IsBackedFile, backed_still}
+use Rattle.tree_table.specs.lemmas.StandingTable.{works_still}
+use Rattle.tree_file.proofs.Exits.{files_fail}
 use Rattle.tree_file.proofs.working.TreeFileTable.packed.Goals as goal
 
 pub invariant_of-self : goal.invariant_of-self

@@ -1,9 +1,9 @@
 use Rattle.std.proofs.Common.{refl}
 use Rattle.tree_file.specs.File.{file_of}
 use Rattle.tree_table.specs.InTrees.{work_in}
-use Rattle.tree_file.specs.aid.Backed.{IsBackedFile, backed_still}
-use Rattle.tree_table.specs.aid.Standing.{works_still}
-use Rattle.tree_file.proofs.Passing.{files_fail}
+use Rattle.tree_file.specs.lemmas.Backed.{IsBackedFile, backed_still}
+use Rattle.tree_table.specs.lemmas.StandingTable.{works_still}
+use Rattle.tree_file.proofs.Exits.{files_fail}
 use Rattle.tree_file.proofs.working.TreeFileTable.settled_at.Goals as goal
 
 pub invariant_of-self : goal.invariant_of-self
@@ -16,4 +16,5 @@ invariant_of-self g c =
     record { of_layout = is.of_layout; counted = is.counted; sized = is.sized; sealed = is.sealed; stands = is.stands }
 
 pub returns-clause-fault : goal.returns-clause-fault
-returns-clause-fault g c = files_fail c.settled_at.result (work_in c.args.self.now.table) (work_in c.settled_at.new.self) c.args.self.now.game c.settled_at.ensures.fault
+returns-clause-fault g c = files_fail c.settled_at.result (work_in c.args.self.now.table)
+    (work_in c.settled_at.new.self) c.args.self.now.game c.settled_at.ensures.fault

@@ -2,11 +2,11 @@ use Rattle.std.proofs.Common.{◌≡◌, ◌≤◌, ◌^◌, ℕ, List, [], refl
 use Rattle.page_store.specs.Store.{reads}
 use Rattle.tree_table.specs.declared.slot.TreeSlot.{TreeSlot}
 use Rattle.tree_table.specs.Spelled.{table_in}
-use Rattle.tree_table.specs.Working.{bare_slot, HoldsTable}
+use Rattle.tree_table.specs.WorkTable.{bare_slot, HoldsTable}
 use Rattle.table.specs.Records.{nothing}
-use Rattle.tree_table.specs.aid.Spelling.{table_is}
+use Rattle.tree_table.specs.lemmas.SpelledTable.{table_is}
 use Rattle.tree_table.proofs.Bare.{bare_holds}
-use Rattle.tree_table.proofs.Holding.{holds_itself}
+use Rattle.tree_table.proofs.HeldTable.{holds_itself}
 use Rattle.tree_table.proofs.working.TreeTable.empty.Goals as goal
 
 pub invariant_of-result : goal.invariant_of-result

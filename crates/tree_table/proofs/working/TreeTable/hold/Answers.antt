@@ -10,7 +10,8 @@ invariant_of-self g c =
       short = self.short;
       few = self.few;
       points = self.points;
-      holds = taken_keeps self.slot self.text.items self.torn (g.P.Pages.store self.store) (g.P.Pages.store c.hold.new.self) c.hold.result c.hold.ensures.some c.hold.ensures.none self.holds;
+      holds = taken_keeps self.slot self.text.items self.torn (g.P.Pages.store self.store)
+          (g.P.Pages.store c.hold.new.self) c.hold.result c.hold.ensures.some c.hold.ensures.none self.holds;
       long = tt;
       last = λ honest. tt;
     }

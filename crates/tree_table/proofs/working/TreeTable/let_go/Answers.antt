@@ -10,7 +10,8 @@ invariant_of-self g c =
       short = self.short;
       few = self.few;
       points = self.points;
-      holds = let_go_keeps self.slot self.text.items self.torn c.args.hold.place (g.P.Pages.store self.store) (g.P.Pages.store c.let_go.new.self) c.let_go.ensures self.holds;
+      holds = let_go_keeps self.slot self.text.items self.torn c.args.hold.place (g.P.Pages.store self.store)
+          (g.P.Pages.store c.let_go.new.self) c.let_go.ensures self.holds;
       long = tt;
       last = λ honest. tt;
     }

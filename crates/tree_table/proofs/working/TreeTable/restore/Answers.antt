@@ -1,11 +1,11 @@
-use Rattle.std.proofs.Common.{◌≡◌, false, sym, subst}
+use Rattle.std.proofs.Common.{◌≡◌, false, refl, sym, subst}
 use mathlib.Core.Logic.{∥∥₁_elim, ∥∥₁_prop}
 use Rattle.tree_table.specs.declared.slot.TreeSlot.{TreeSlot}
-use Rattle.tree_table.specs.Keeping.{StandsFor, IsSizedSlot, slot_or_bare}
-use Rattle.tree_table.specs.Working.{work_of, HoldsWork}
-use Rattle.tree_table.specs.aid.Standing.{was_honest, discarded_still, discarded_calm, still_stands_for}
-use Rattle.tree_table.specs.aid.Versions.{remarked_keeps_holds}
-use Rattle.tree_table.proofs.Committing.{sized_slot, stands_holds}
+use Rattle.tree_table.specs.KeptTrees.{StandsFor, IsSizedSlot, slot_or_bare}
+use Rattle.tree_table.specs.WorkTable.{work_of, HoldsWork}
+use Rattle.tree_table.specs.lemmas.StandingTable.{was_honest, discarded_still, discarded_calm, still_stands_for}
+use Rattle.tree_table.specs.lemmas.Versions.{remarked_keeps_holds}
+use Rattle.tree_table.proofs.Commits.{sized_slot, stands_holds}
 use Rattle.tree_table.proofs.working.TreeTable.restore.Goals as goal
 
 pub invariant_of-self : goal.invariant_of-self
@@ -33,5 +33,18 @@ invariant_of-self g c =
       last = λ honest. tt;
     }
 
-pub returns-clause-held : goal.returns-clause-held
-returns-clause-held g c = remarked_keeps_holds (g.P.Pages.store c.args.self.now.store) (g.P.Pages.store c.discard.new.self) c.discard.ensures.marks.same_length c.discard.ensures.others
+pub returns : goal.returns
+returns g c =
+    let old = g.P.Pages.store c.args.self.now.store in
+    let new = g.P.Pages.store c.discard.new.self in
+    let told = c.discard.ensures in
+    record {
+      slot = c.slot_or_bare-self.ensures;
+      text = refl;
+      torn = refl;
+      still = discarded_still old new told.marks told.others;
+      held = remarked_keeps_holds old new told.marks.same_length told.others;
+      calm = discarded_calm old new told.marks c.requires.sealed;
+      marks = told.marks;
+      others = told.others;
+    }

@@ -1,9 +1,9 @@
 use Rattle.std.proofs.Common.{◌≡◌, false, sym, subst}
 use mathlib.Core.Logic.{∥∥₁_elim, ∥∥₁_prop}
 use Rattle.tree_table.specs.declared.slot.TreeSlot.{TreeSlot}
-use Rattle.tree_table.specs.Keeping.{StandsFor, IsSizedSlot, slot_or_bare}
-use Rattle.tree_table.specs.Working.{work_of, HoldsWork}
-use Rattle.tree_table.proofs.Committing.{sized_slot, stands_holds}
+use Rattle.tree_table.specs.KeptTrees.{StandsFor, IsSizedSlot, slot_or_bare}
+use Rattle.tree_table.specs.WorkTable.{work_of, HoldsWork}
+use Rattle.tree_table.proofs.Commits.{sized_slot, stands_holds}
 use Rattle.tree_table.proofs.working.TreeTable.standing.Goals as goal
 
 pub invariant_of-result : goal.invariant_of-result

@@ -4,10 +4,11 @@ use Rattle.tree_table.specs.Readers.{IsNear}
 use Rattle.retrograde.specs.declared.records.Counts.{Counts}
 use Rattle.retrograde.specs.Changes.{with_edge}
 use Rattle.tree_table.specs.InTrees.{work_in}
-use Rattle.tree_table.specs.Working.{work_of, table_now, HoldsTable, HoldsWork, IsHonestWork}
+use Rattle.tree_table.specs.WorkTable.{work_of, table_now, HoldsTable, HoldsWork, IsHonestWork}
 use Rattle.std.specs.Option.{IfSome}
-use Rattle.tree_table.proofs.Seeing.{seen_with_edge}
-use Rattle.tree_table.proofs.Holding.{now_held, now_stored, now_seen, now_goes_on, writes_so}
+use Rattle.tree_table.proofs.LastCell.{seen_with_edge}
+use Rattle.tree_table.proofs.Faults.{passed_on}
+use Rattle.tree_table.proofs.HeldTable.{writes_fail, now_held, now_stored, now_seen, now_goes_on, writes_so}
 use Rattle.tree_table.proofs.working.TreeTableTable.add_edge.Goals as goal
 
 pub invariant_of-self-2 : goal.invariant_of-self-2
@@ -16,20 +17,21 @@ invariant_of-self-2 g c =
     let text = self.text.items in
     let old = work_of self.slot text self.torn (g.P.Pages.store self.store) in
     let new = work_of c.in_ok-self.field-0 text self.torn (g.P.Pages.store c.add_edge.new.store) in
-    let done = c.in_ok-self.ensures in
+    let done = c.in_ok-self.ensures.ok in
     let now = with_edge (table_now old) c.args.successor c.args.predecessor in
-    let few : c.in_ok-self.field-0.sizes.counts.known ≤ 2 ^ 24 = subst (λ (k : Counts). k.known ≤ 2 ^ 24) (sym done.counts) self.few in
+    let few : c.in_ok-self.field-0.sizes.counts.known ≤ 2 ^ 24 = subst (λ (k : Counts). k.known ≤ 2 ^ 24) (sym c.in_ok-self.ensures.counts) self.few in
     let changed : IsHonestWork old → HoldsWork old → HoldsTable c.in_ok-self.field-0 text now (g.P.Pages.store c.add_edge.new.store) =
-    λ honest h. done.table honest.disk text (table_now old) h in
+    λ honest h. done.table honest.disk text (table_now old) h tt in
     record {
       reads = subst (λ (near : Option Reader). IsNear c.in_ok-self.field-0 (g.P.Pages.store c.add_edge.new.store) near) (sym c.forget.ensures) tt;
       some = omega (arith, self.some, done.slot.packed);
       short = omega (arith, self.short, done.slot.packed);
       few = few;
       points = omega (arith, self.points, done.slot.goal);
-      holds = now_held old new now few done.works refl refl changed self.holds;
+      holds = now_held old new now few done.written.works refl refl changed self.holds;
       long = subst (λ (n : ℕ). IfSome self.seen (λ s. length s.cell.position.items ≡ n)) (sym done.slot.packed) self.long;
-      last = now_seen old new now few done.works refl refl changed self.seen (seen_with_edge (table_now old) c.args.successor c.args.predecessor) self.holds self.last;
+      last = now_seen old new now few done.written.works refl refl changed self.seen
+          (seen_with_edge (table_now old) c.args.successor c.args.predecessor) self.holds self.last;
     }
 
 pub returns-clause-added : goal.returns-clause-added
@@ -38,12 +40,12 @@ returns-clause-added g c = λ honest.
     let text = self.text.items in
     let old = work_of self.slot text self.torn (g.P.Pages.store self.store) in
     let new = work_of c.in_ok-self.field-0 text self.torn (g.P.Pages.store c.add_edge.new.store) in
-    let done = c.in_ok-self.ensures in
+    let done = c.in_ok-self.ensures.ok in
     let now = with_edge (table_now old) c.args.successor c.args.predecessor in
-    let few : c.in_ok-self.field-0.sizes.counts.known ≤ 2 ^ 24 = subst (λ (k : Counts). k.known ≤ 2 ^ 24) (sym done.counts) self.few in
+    let few : c.in_ok-self.field-0.sizes.counts.known ≤ 2 ^ 24 = subst (λ (k : Counts). k.known ≤ 2 ^ 24) (sym c.in_ok-self.ensures.counts) self.few in
     let changed : IsHonestWork old → HoldsWork old → HoldsTable c.in_ok-self.field-0 text now (g.P.Pages.store c.add_edge.new.store) =
-    λ honest h. done.table honest.disk text (table_now old) h in
-    now_stored old new now few done.works refl refl changed self.holds honest
+    λ honest h. done.table honest.disk text (table_now old) h tt in
+    now_stored old new now few done.written.works refl refl changed self.holds honest
 
 pub returns-clause-wrote : goal.returns-clause-wrote
 returns-clause-wrote g c =
@@ -51,13 +53,14 @@ returns-clause-wrote g c =
     let text = self.text.items in
     let old = work_of self.slot text self.torn (g.P.Pages.store self.store) in
     let new = work_of c.in_ok-self.field-0 text self.torn (g.P.Pages.store c.add_edge.new.store) in
-    let done = c.in_ok-self.ensures in
+    let done = c.in_ok-self.ensures.ok in
     let now = with_edge (table_now old) c.args.successor c.args.predecessor in
-    let few : c.in_ok-self.field-0.sizes.counts.known ≤ 2 ^ 24 = subst (λ (k : Counts). k.known ≤ 2 ^ 24) (sym done.counts) self.few in
+    let few : c.in_ok-self.field-0.sizes.counts.known ≤ 2 ^ 24 = subst (λ (k : Counts). k.known ≤ 2 ^ 24) (sym c.in_ok-self.ensures.counts) self.few in
     let changed : IsHonestWork old → HoldsWork old → HoldsTable c.in_ok-self.field-0 text now (g.P.Pages.store c.add_edge.new.store) =
-    λ honest h. done.table honest.disk text (table_now old) h in
+    λ honest h. done.table honest.disk text (table_now old) h tt in
     writes_so work_in _ _
-    (now_goes_on old new now few done.works refl refl changed done.open done.slot.text done.slot.packing done.slot.goal) (ap (λ (k : Counts). k.known) done.counts)
+    (now_goes_on old new now few done.written.works refl refl changed done.written.still done.slot.text done.slot.packing done.slot.goal)
+    (ap (λ (k : Counts). k.known) c.in_ok-self.ensures.counts)
 
 pub invariant_of-self : goal.invariant_of-self
 invariant_of-self g c =
@@ -72,3 +75,9 @@ invariant_of-self g c =
       last = λ honest. let never : true ≡ false = honest.whole in absurd (cc);
       reads = subst (λ (near : Option Reader). IsNear self.slot (g.P.Pages.store c.add_edge.new.store) near) (sym c.forget.ensures) tt;
     }
+
+pub returns-in_err-self-clause-fault : goal.returns-in_err-self-clause-fault
+returns-in_err-self-clause-fault g c =
+    let self = c.args.self.now in
+    passed_on _ c.from_residual.result _ c.from_residual.ensures
+    (writes_fail self.slot self.text.items self.torn true (g.P.Pages.store self.store) (g.P.Pages.store c.add_edge.new.store) c.in_err-self.ensures.err)

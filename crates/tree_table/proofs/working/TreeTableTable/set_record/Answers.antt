@@ -1,11 +1,11 @@
 use Rattle.std.proofs.Common.{ap, ◌∙◌}
 use Rattle.tree_table.specs.declared.slot.TreeSlot.{TreeSlot}
 use Rattle.std.proofs.lemmas.Result.{IfErr-weaker}
-use Rattle.tree_table.specs.Working.{WorkFails}
+use Rattle.tree_table.specs.WorkTable.{WorkFails}
 use Rattle.tree_table.specs.InTrees.{work_in}
-use Rattle.tree_table.specs.aid.Frames.{stays_goes_on, goes_on_then, fails_since}
-use Rattle.tree_table.proofs.Holding.{writes_so}
-use Rattle.tree_table.proofs.Committing.{on_ok}
+use Rattle.tree_table.specs.lemmas.Frames.{stays_goes_on, goes_on_then, fails_since}
+use Rattle.tree_table.proofs.HeldTable.{writes_so}
+use Rattle.tree_table.proofs.Commits.{on_ok}
 use Rattle.tree_table.proofs.working.TreeTableTable.set_record.Goals as goal
 
 pub returns-clause-wrote : goal.returns-clause-wrote
@@ -16,5 +16,6 @@ returns-clause-wrote g c =
 
 pub returns-clause-fault : goal.returns-clause-fault
 returns-clause-fault g c =
-    IfErr-weaker c.set_seen.result (WorkFails (work_in c.see.new.self) (work_in c.set_seen.new.self)) (WorkFails (work_in c.args.self.now) (work_in c.set_seen.new.self))
+    IfErr-weaker c.set_seen.result (WorkFails (work_in c.see.new.self) (work_in c.set_seen.new.self))
+    (WorkFails (work_in c.args.self.now) (work_in c.set_seen.new.self))
     (λ fault fails. fails_since fault (stays_goes_on c.in_ok-see.ensures.stays) fails) c.set_seen.ensures.fault

@@ -3,7 +3,7 @@ use Rattle.btree.specs.declared.page.kind.Kind.TheVariants.{Leaf}
 use Rattle.btree.specs.declared.page.kind.Kind.{Kind}
 use Rattle.btree.specs.Page.{Item, IsPage, behind_of, items_in, items_of}
 use Rattle.btree.specs.Entries.{first_key}
-use Rattle.btree.proofs.InPlace.{first_kept}
+use Rattle.btree.proofs.puts.InPlace.{first_kept}
 use Rattle.btree.proofs.put.entry.EntryPutPageEdit.apply.Goals as goal
 
 pub returns-clause-edited : goal.returns-clause-edited
@@ -27,5 +27,6 @@ returns-clause-edited c =
       leaf = subst (λ (k : Kind). IsPage w k c.args.page.now) c.in-Some-Leaf.field-0-is c.in-Some-Leaf.ensures.some;
       page = c.splice_in-span.ensures.page;
       items = λ ascend. are ∙ c.places_of-from.ensures.put ascend value;
+      new_key = λ only. c.places_of-from.ensures.new_key (omega (arith, c.places_of-from.ensures.order, c.is_kept.ensures c.if-is_kept.false only));
       first = λ ascend k first. ap first_key are ∙ first_kept from was ((key, value) ∷ drop to was) k some first;
     }

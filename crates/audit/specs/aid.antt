@@ -1,3 +1,0 @@
-pub mod Conditions
-pub mod Edges
-pub mod Records

@@ -1,0 +1,4 @@
+pub mod Conditions
+pub mod Edges
+pub mod Records
+pub mod Tallies

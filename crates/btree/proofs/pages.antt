@@ -1,0 +1,4 @@
+pub mod Numbers
+pub mod KeyPlaces
+pub mod Room
+pub mod ItemBytes

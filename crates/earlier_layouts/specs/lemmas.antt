@@ -1,0 +1,10 @@
+pub mod Items
+pub mod Laws
+pub mod ImageParts
+pub mod ImageReads
+pub mod ReadLaws
+pub mod FileReads
+pub mod StoredLaws
+pub mod Whole
+pub mod CopyParts
+pub mod MovingSteps

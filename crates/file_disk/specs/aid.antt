@@ -1,3 +1,0 @@
-pub mod Narrow
-pub mod Search
-pub mod Waiting

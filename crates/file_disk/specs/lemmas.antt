@@ -1,0 +1,3 @@
+pub mod Narrow
+pub mod Search
+pub mod WaitingSectors

@@ -1,4 +1,0 @@
-pub mod OneTable
-pub mod Laws
-pub mod Tables
-pub mod Pages

@@ -1,0 +1,5 @@
+pub mod OneTable
+pub mod Laws
+pub mod Tables
+pub mod Pages
+pub mod TriedUnit

@@ -1,0 +1,10 @@
+pub mod Plays
+pub mod Finished
+pub mod Told
+pub mod Histories
+pub mod Limit
+pub mod FewMoves
+pub mod Causes
+pub mod Questions
+pub mod AtWork
+pub mod Migrations

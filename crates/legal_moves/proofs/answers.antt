@@ -1,0 +1,12 @@
+pub mod GraphLemmas
+pub mod TakeLemmas
+pub mod PackLemmas
+pub mod EndsByBytes
+pub mod ShownLemmas
+pub mod MovesLemmas
+pub mod ListedLemmas
+pub mod ReachLemmas
+pub mod SourceLemmas
+pub mod RepackLemmas
+pub mod PackedEnds
+pub mod FieldLemmas

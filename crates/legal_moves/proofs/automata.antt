@@ -1,0 +1,13 @@
+pub mod GlushkovLemmas
+pub mod Walks
+pub mod RelationLemmas
+pub mod EndsLemmas
+pub mod TableLemmas
+pub mod AlikeLemmas
+pub mod PatternLemmas
+pub mod StepLemmas
+pub mod MarkLemmas
+pub mod SetLemmas
+pub mod RowLemmas
+pub mod ReadyLemmas
+pub mod CompiledLemmas

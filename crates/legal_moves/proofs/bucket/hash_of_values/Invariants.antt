@@ -1,9 +1,0 @@
-use Rattle.std.proofs.Common.{◌≡◌, ◌<◌, fold, take}
-use Rattle.legal_moves.specs.aid.Buckets.{mixed}
-use Rattle.legal_moves.proofs.bucket.hash_of_values.Given as goal
-
-abbrev pub invariant-loop-value : goal.invariant-loop-value
-invariant-loop-value l = record {
-  is : l.hash ≡ fold mixed l.before (take l.value-index l.values);
-  small : l.hash < 65536;
-}

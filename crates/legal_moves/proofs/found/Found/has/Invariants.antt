@@ -1,9 +1,0 @@
-use Rattle.legal_moves.specs.aid.Standing.{bucket_at, IsSameStand}
-use Rattle.legal_moves.proofs.ChainLemmas.{IsAlong}
-use Rattle.legal_moves.proofs.found.Found.has.Given as goal
-
-abbrev pub invariant-loop-at : goal.invariant-loop-at
-invariant-loop-at l = IsAlong bucket_at l.self.stands.items (λ s. IsSameStand s l.stand) (bucket_at l.stand) l.at
-
-abbrev pub decreases-loop-at : goal.decreases-loop-at
-decreases-loop-at l = l.at

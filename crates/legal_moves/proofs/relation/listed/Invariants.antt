@@ -1,7 +1,0 @@
-use Rattle.std.proofs.Common.{◌<◌}
-use Rattle.legal_moves.specs.aid.Marks.{IsMarkSet}
-use Rattle.legal_moves.specs.Listing.{AreListed}
-use Rattle.legal_moves.proofs.relation.listed.Given as goal
-
-abbrev pub invariant-loop-number : goal.invariant-loop-number
-invariant-loop-number l = AreListed (λ k. IsMarkSet l.row k × (k < l.number)) l.list.items

@@ -1,6 +1,0 @@
-use Rattle.std.proofs.Common.{take}
-use Rattle.legal_moves.specs.aid.Sets.{AreSets}
-use Rattle.legal_moves.proofs.table.sets_of.Given as goal
-
-abbrev pub invariant-loop-step : goal.invariant-loop-step
-invariant-loop-step l = AreSets (take l.step-index l.steps) l.sets.items

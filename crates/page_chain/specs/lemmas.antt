@@ -1,0 +1,3 @@
+pub mod Causes
+pub mod Links
+pub mod EveryChain

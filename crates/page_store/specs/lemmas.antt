@@ -1,0 +1,7 @@
+pub mod Carried
+pub mod Counts
+pub mod Disk
+pub mod Frames
+pub mod Holds
+pub mod Page
+pub mod Works

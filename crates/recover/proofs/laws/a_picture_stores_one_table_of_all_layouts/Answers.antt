@@ -1,5 +1,0 @@
-use Rattle.recover.specs.aid.Migrations.{one_of_all}
-use Rattle.recover.proofs.laws.a_picture_stores_one_table_of_all_layouts.Goals as goal
-
-pub returns : goal.returns
-returns c = one_of_all

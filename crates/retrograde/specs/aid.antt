@@ -1,2 +1,0 @@
-pub mod Expansion
-pub mod Processing

@@ -1,0 +1,15 @@
+pub mod Counts
+pub mod AsMany
+pub mod Right
+pub mod EntryReads
+pub mod MarkedPages
+pub mod One
+pub mod OneTree
+pub mod Told
+pub mod Backed
+pub mod Frames
+pub mod Whole
+pub mod GameReads
+pub mod Opened
+pub mod MadeTable
+pub mod Free

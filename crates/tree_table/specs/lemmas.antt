@@ -1,0 +1,15 @@
+pub mod Faults
+pub mod Frames
+pub mod Growth
+pub mod KeptPages
+pub mod Keys
+pub mod Last
+pub mod Lists
+pub mod Numbers
+pub mod Readers
+pub mod OneTable
+pub mod Slots
+pub mod SpelledTable
+pub mod StandingTable
+pub mod FirstTable
+pub mod Versions

@@ -1,3 +1,0 @@
-pub mod Sittings
-pub mod Migrations
-pub mod Printing
