@@ -31,7 +31,7 @@ IsNarrow {P} IsWide stored = (i : ℕ) (x : P) → HasNumber (view_of stored) i 
 
 -- what is so of a fault: that a search was too wide comes only so; and one of the table's own is no want of a page,
 -- and has the table's cause
-pub record HasCause (Wide : Type 0) (Fails : TableFault → Type 0) (told : AuditFault) : Type 0 where
+pub record HasAuditCause (Wide : Type 0) (Fails : TableFault → Type 0) (told : AuditFault) : Type 0 where
   pub wide : told ≡ TooWide → Wide
   pub room : OfTableFault NeedsNoPage told
   pub fault : OfTableFault Fails told

@@ -4,7 +4,7 @@ ghost use Rattle.retrograde.specs.View.{HasNumber};
 ghost use Rattle.retrograde.specs.Stored.{IsTable, view_of, expanded_count};
 ghost use Rattle.table.specs.Memory.{bytes_of_each};
 ghost use Rattle.table.specs.Faults.{NeedsNoPage};
-ghost use Rattle.audit.specs.Causes.{HasCause, HasWide};
+ghost use Rattle.audit.specs.Causes.{HasAuditCause, HasWide};
 ghost use Rattle.audit.specs.lemmas.Edges.{CountsIf, IsMoveEdge, AreArrivals};
 ghost use Rattle.table.specs.Frames.{IsRead};
 
@@ -81,7 +81,7 @@ fn count_moves<M: MoveSource, T: Table>(
         → CountsIf (IsMoveEdge (M.graph source.now) (T.stored table.old) i x from) arrivals.old.items arrivals.new.items i) }
     ensures lengths { length arrivals.new.items ≡ length arrivals.old.items }
     ensures read { IsRead T.stored T.is_honest T.counted T.stays table.old table.new }
-    ensures err { IfErr result (HasCause (T.is_honest table.old → from < expanded_count (T.stored table.old)
+    ensures err { IfErr result (HasAuditCause (T.is_honest table.old → from < expanded_count (T.stored table.old)
         → HasWide (M.is_wide source.now) (T.stored table.old)) (T.fails table.old table.new)) }
 {
     let packed = table.packed(from)?;
@@ -101,7 +101,7 @@ pub fn arrivals<M: MoveSource, T: Table>(
         AreArrivals (M.graph source.now) (T.stored table.old) (expanded_count (T.stored table.old)) arrivals.items) }
     ensures lengths { IfOk result (λ arrivals. length arrivals.items ≡ (T.counted table.old).known) }
     ensures read { IsRead T.stored T.is_honest T.counted T.stays table.old table.new }
-    ensures err { IfErr result (HasCause
+    ensures err { IfErr result (HasAuditCause
         (T.is_honest table.old → HasWide (M.is_wide source.now) (T.stored table.old)) (T.fails table.old table.new)) }
 {
     let counts = table.counts();

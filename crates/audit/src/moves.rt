@@ -8,7 +8,7 @@ ghost use Rattle.retrograde.specs.Stored.{HasRecord, IsTable, view_of, is_proces
 ghost use Rattle.retrograde.specs.Audit.{HasItsMoves};
 ghost use Rattle.table.specs.Memory.{bytes_of_each};
 ghost use Rattle.table.specs.Faults.{NeedsNoPage};
-ghost use Rattle.audit.specs.Causes.{HasCause};
+ghost use Rattle.audit.specs.Causes.{HasAuditCause};
 ghost use Rattle.audit.specs.lemmas.Conditions.{AreItsRecords};
 ghost use Rattle.table.specs.Frames.{IsRead};
 
@@ -33,7 +33,7 @@ fn numbers_of<T: Table>(
         × ((j : ℕ) → slice_get (T.stored table.old).positions j ≡ Some y → ⊥))) }
     ensures within { IfOk result (λ r. IfSome r (λ numbers. All (λ j. j < (T.counted table.old).known) numbers.items)) }
     ensures read { IsRead T.stored T.is_honest T.counted T.stays table.old table.new }
-    ensures err { IfErr result (HasCause ⊥ (T.fails table.old table.new)) }
+    ensures err { IfErr result (HasAuditCause ⊥ (T.fails table.old table.new)) }
 {
     let mut numbers = Vec::new(alloc);
     for position in positions {
@@ -70,7 +70,7 @@ fn records_of<T: Table>(
     requires { All (λ j. j < (T.counted table.old).known) numbers.now }
     ensures records { T.is_honest table.old → IfOk result (λ records. AllZip (HasRecord (T.stored table.old)) numbers.now records.items) }
     ensures read { IsRead T.stored T.is_honest T.counted T.stays table.old table.new }
-    ensures err { IfErr result (HasCause ⊥ (T.fails table.old table.new)) }
+    ensures err { IfErr result (HasAuditCause ⊥ (T.fails table.old table.new)) }
 {
     let mut records = Vec::new(alloc);
     for number in numbers {
@@ -112,7 +112,7 @@ pub fn successors_of<M: MoveSource, T: Table>(
         → IfOk result (λ r. IfNone r (HasItsMoves (M.graph source.now) (T.stored table.old) number at.now.items → ⊥)) }
     ensures narrow { IsOk result → ¬ M.is_wide source.now at.now.items }
     ensures read { IsRead T.stored T.is_honest T.counted T.stays table.old table.new }
-    ensures err { IfErr result (HasCause (M.is_wide source.now at.now.items) (T.fails table.old table.new)) }
+    ensures err { IfErr result (HasAuditCause (M.is_wide source.now at.now.items) (T.fails table.old table.new)) }
 {
     let found = source.successors(alloc, at)?;
     let Some(numbers) = numbers_of(alloc, table, &found)? else {

@@ -5,7 +5,7 @@ ghost use Rattle.retrograde.specs.Stored.{HasRecord, IsTable, view_of, expanded_
 ghost use Rattle.retrograde.specs.Audit.{IsReached};
 ghost use Rattle.retrograde.specs.Verdicts.{condition_of};
 ghost use Rattle.table.specs.Faults.{NeedsNoPage};
-ghost use Rattle.audit.specs.Causes.{HasCause, HasWide};
+ghost use Rattle.audit.specs.Causes.{HasAuditCause, HasWide};
 ghost use Rattle.audit.specs.lemmas.Conditions.{IsLowest, own_condition, IsFloor};
 ghost use Rattle.audit.specs.lemmas.Edges.{IsArriving};
 ghost use Rattle.table.specs.Frames.{IsRead};
@@ -63,7 +63,7 @@ fn later_failing<M: MoveSource, T: Table>(
     ensures narrow { T.is_honest table.old → result ≡ Ok None → number < expanded_count (T.stored table.old)
         → ¬ M.is_wide source.now at.now.items }
     ensures read { IsRead T.stored T.is_honest T.counted T.stays table.old table.new }
-    ensures err { IfErr result (HasCause
+    ensures err { IfErr result (HasAuditCause
         (T.is_honest table.old → (number < expanded_count (T.stored table.old)) × M.is_wide source.now at.now.items)
         (T.fails table.old table.new)) }
 {
@@ -96,7 +96,7 @@ pub fn own_failing<M: MoveSource, T: Table>(
     ensures narrow { T.is_honest table.old → result ≡ Ok None → (x : List ℕ) → HasNumber (view_of (T.stored table.old)) number x
         → number < expanded_count (T.stored table.old) → ¬ M.is_wide source.now x }
     ensures read { IsRead T.stored T.is_honest T.counted T.stays table.old table.new }
-    ensures err { IfErr result (HasCause
+    ensures err { IfErr result (HasAuditCause
         (T.is_honest table.old → HasWide (M.is_wide source.now) (T.stored table.old)) (T.fails table.old table.new)) }
 {
     let at = table.packed(number)?;
@@ -134,7 +134,7 @@ pub fn failing<M: MoveSource, T: Table>(
     ensures narrow { T.is_honest table.old → result ≡ Ok None → (x : List ℕ) → HasNumber (view_of (T.stored table.old)) number x
         → number < expanded_count (T.stored table.old) → ¬ M.is_wide source.now x }
     ensures read { IsRead T.stored T.is_honest T.counted T.stays table.old table.new }
-    ensures err { IfErr result (HasCause
+    ensures err { IfErr result (HasAuditCause
         (T.is_honest table.old → HasWide (M.is_wide source.now) (T.stored table.old)) (T.fails table.old table.new)) }
 {
     let own = own_failing(alloc, source, table, number, floor)?;

@@ -2,7 +2,7 @@
 ghost use Rattle.std.specs.Prelude.{◌≡◌, ◌<◌, ℕ, Some, IfOk, OnOk, IfErr, length, slice_get, slice_set};
 ghost use Rattle.retrograde.specs.Stored.{IsTable};
 ghost use Rattle.table.specs.Faults.{NeedsNoPage};
-ghost use Rattle.audit.specs.Causes.{HasCause};
+ghost use Rattle.audit.specs.Causes.{HasAuditCause};
 ghost use Rattle.audit.specs.lemmas.Conditions.{AreFloors, distance_at};
 ghost use Rattle.table.specs.Frames.{IsRead};
 
@@ -43,7 +43,7 @@ pub fn floors<T: Table>(alloc: Global, table: &mut T) -> Result<Vec<u32>, AuditF
         → IfOk result (λ floors. AreFloors (T.stored table.old) (length (T.stored table.old).order) floors.items) }
     ensures lengths { IfOk result (λ floors. length floors.items ≡ (T.counted table.old).known) }
     ensures read { IsRead T.stored T.is_honest T.counted T.stays table.old table.new }
-    ensures err { IfErr result (HasCause ⊥ (T.fails table.old table.new)) }
+    ensures err { IfErr result (HasAuditCause ⊥ (T.fails table.old table.new)) }
 {
     let counts = table.counts();
     let mut floors = vec![in alloc; 0; counts.known as usize]?;

@@ -2,7 +2,7 @@
 ghost use Rattle.std.specs.Prelude.{◌≡◌, ◌<◌, true, IfOk, IfErr, IfSome, Ok, length};
 ghost use Rattle.retrograde.specs.Stored.{IsTable};
 ghost use Rattle.audit.specs.Answers.{IsAnswer};
-ghost use Rattle.audit.specs.Causes.{HasCause, HasWide};
+ghost use Rattle.audit.specs.Causes.{HasAuditCause, HasWide};
 ghost use Rattle.audit.specs.lemmas.Conditions.{AreFloors};
 ghost use Rattle.audit.specs.lemmas.Tallies.{IsTallied};
 ghost use Rattle.table.specs.Frames.{IsRead};
@@ -37,7 +37,7 @@ fn tally_of<M: MoveSource, T: Table>(
         IsTallied (M.graph source.now) (M.is_wide source.now) (T.stored table.old) number floor
         tally.moves tally.edges)) }
     ensures read { IsRead T.stored T.is_honest T.counted T.stays table.old table.new }
-    ensures err { IfErr result (HasCause
+    ensures err { IfErr result (HasAuditCause
         (T.is_honest table.old → HasWide (M.is_wide source.now) (T.stored table.old)) (T.fails table.old table.new)) }
 {
     let edges = count_edges(table, number)?;
@@ -62,7 +62,7 @@ pub fn adds_up<M: MoveSource, T: Table>(
         → AreFloors (T.stored table.old) (length (T.stored table.old).order) floors.now → result ≡ Ok true
         → IsAnswer (M.graph source.now) (M.is_wide source.now) (T.stored table.old) Right }
     ensures read { IsRead T.stored T.is_honest T.counted T.stays table.old table.new }
-    ensures err { IfErr result (HasCause
+    ensures err { IfErr result (HasAuditCause
         (T.is_honest table.old → HasWide (M.is_wide source.now) (T.stored table.old)) (T.fails table.old table.new)) }
 {
     let mut moves: u64 = 0;

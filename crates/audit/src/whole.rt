@@ -5,7 +5,7 @@ ghost use Rattle.retrograde.specs.Stored.{IsTable, view_of, expanded_count};
 ghost use Rattle.retrograde.specs.Sound.{IsLocallySound};
 ghost use Rattle.table.specs.Faults.{NeedsNoPage};
 ghost use Rattle.audit.specs.Answers.{IsAnswer, IsTableSo};
-ghost use Rattle.audit.specs.Causes.{OfTableFault, HasCause, HasWide};
+ghost use Rattle.audit.specs.Causes.{OfTableFault, HasAuditCause, HasWide};
 ghost use Rattle.audit.specs.lemmas.Conditions.{AreFloors};
 ghost use Rattle.audit.specs.lemmas.Edges.{AreArrivals};
 ghost use Rattle.table.specs.Frames.{IsRead};
@@ -38,7 +38,7 @@ fn first_wrong<M: MoveSource, T: Table>(
         → AreArrivals (M.graph source.now) (T.stored table.old) (expanded_count (T.stored table.old)) arrivals.now
         → IfOk result (IsAnswer (M.graph source.now) (M.is_wide source.now) (T.stored table.old)) }
     ensures read { IsRead T.stored T.is_honest T.counted T.stays table.old table.new }
-    ensures err { IfErr result (HasCause
+    ensures err { IfErr result (HasAuditCause
         (T.is_honest table.old → HasWide (M.is_wide source.now) (T.stored table.old)) (T.fails table.old table.new)) }
 {
     for number in 0..table.counts().known {

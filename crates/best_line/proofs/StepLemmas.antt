@@ -18,7 +18,7 @@ use Rattle.legal_moves.specs.Listed.{ListsExactly}
 use Rattle.best_line.specs.declared.fault.LineFault.{LineFault}
 use Rattle.best_line.specs.declared.fault.LineFault.TheVariants.{NotSettled, Inconsistent, TooWide, OutOfMemory, Table}
 use Rattle.best_line.specs.Causes.{IsLineCause, LineStops}
-use Rattle.best_line.specs.Lines.{IsBestStep, HasNoStep, ComesTo}
+use Rattle.best_line.specs.Lines.{IsBestStep, HasNoStep, LineComesTo}
 use Rattle.best_line.specs.lemmas.Lines.{IsFirstWon}
 
 module _ (graph : Graph (List ℕ)) (view : View (List ℕ)) (x : List ℕ) (ys : List (List ℕ)) (lists : ListsExactly (graph.Successor x) ys)
@@ -79,7 +79,7 @@ module _ (graph : Graph (List ℕ)) (IsWide : List ℕ → Type 0) (stored : Sto
 
 -- why the line of any table stops at a step that is not found
 pub step_stops : (graph : Graph (List ℕ)) (IsWide : List ℕ → Type 0) (view : View (List ℕ)) (w : Player) (number i n : ℕ)
-    → ComesTo graph view number w i (suc n)
+    → LineComesTo graph view number w i (suc n)
     → (fault : LineFault) → (fault ≡ Inconsistent → HasNoStep graph view i w n) → (fault ≡ TooWide → (x : List ℕ) × HasNumber view i x × IsWide x)
     → (fault ≡ NotSettled → ⊥) → LineStops graph IsWide view number fault
 step_stops graph IsWide view w number i n comes NotSettled none wide settled = absurd (settled refl)

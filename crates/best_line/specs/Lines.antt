@@ -59,7 +59,7 @@ pub record IsToldLine (graph : Graph (List ℕ)) (view : View (List ℕ)) (numbe
   pub line : IsBestLine graph view winner distance numbers
 
 -- the line that the table tells from this number comes to the last one, which w wins in n by the table
-pub record ComesTo (graph : Graph (List ℕ)) (view : View (List ℕ)) (number : ℕ) (w : Player) (last n : ℕ) : Type 0 where
+pub record LineComesTo (graph : Graph (List ℕ)) (view : View (List ℕ)) (number : ℕ) (w : Player) (last n : ℕ) : Type 0 where
   pub distance : ℕ
   pub value : view.value number ≡ Some (w, distance)
   pub numbers : List ℕ
@@ -71,7 +71,7 @@ pub record BreaksOff (graph : Graph (List ℕ)) (view : View (List ℕ)) (number
   pub winner : Player
   pub last : ℕ
   pub left : ℕ
-  pub comes : ComesTo graph view number winner last (suc left)
+  pub comes : LineComesTo graph view number winner last (suc left)
   pub none : HasNoStep graph view last winner left
 
 -- it comes to a number whose position is too wide, so that its moves are not known
@@ -79,7 +79,7 @@ pub record MeetsWide (graph : Graph (List ℕ)) (IsWide : List ℕ → Type 0) (
   pub winner : Player
   pub last : ℕ
   pub left : ℕ
-  pub comes : ComesTo graph view number winner last (suc left)
+  pub comes : LineComesTo graph view number winner last (suc left)
   pub position : List ℕ
   pub number_is : HasNumber view last position
   pub wide : IsWide position

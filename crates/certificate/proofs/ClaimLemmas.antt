@@ -10,20 +10,20 @@ use Rattle.legal_moves.specs.Sources.{graph_of}
 use Rattle.certificate.specs.declared.claim.Claimed.{Claimed}
 use Rattle.certificate.specs.declared.fault.CertificateFault.{CertificateFault}
 use Rattle.certificate.specs.lemmas.Reasons.{AreTheLists, IsNotShown}
-use Rattle.certificate.specs.Claims.{IsSo, IsCertified}
-use Rattle.certificate.specs.Refusals.{IsRefused}
-use Rattle.certificate.specs.Answers.{IsAnswer, certified, refused, refusal_line, shown_lines, status_of}
+use Rattle.certificate.specs.Claims.{IsClaimSo, IsCertified}
+use Rattle.certificate.specs.Refusals.{IsCertificateRefused}
+use Rattle.certificate.specs.Answers.{IsCertificateAnswer, certified, refused, refusal_line, shown_lines, status_of}
 
 -- what is so in the graph of a source is so in that of its game
 pub same_claim : (claim : Claimed) (kind : PackingKind) (goal given : Option ℕ) (game read : Game) (form : Form) (at : Position) (x : List ℕ)
     → kind ≡ Bits → goal ≡ given → game ≡ read → form ≡ form_of kind game → x ≡ packed_by form.kind form.shape at
-    → IsSo (graph_of kind goal game) claim x → IsSo (graph_of Bits given read) claim (packed_by Bits (shape_of read) at)
+    → IsClaimSo (graph_of kind goal game) claim x → IsClaimSo (graph_of Bits given read) claim (packed_by Bits (shape_of read) at)
 same_claim claim kind goal given game read form at x kind_is goal_is game_is form_is packed so =
     let bytes : x ≡ packed_by kind (shape_of game) at = packed ∙ ap (λ (q : Form). packed_by q.kind q.shape at) form_is in
-    let one = subst (λ (y : List ℕ). IsSo (graph_of kind goal game) claim y) bytes so in
-    let two = subst (λ (q : PackingKind). IsSo (graph_of q goal game) claim (packed_by q (shape_of game) at)) kind_is one in
-    let three = subst (λ (q : Option ℕ). IsSo (graph_of Bits q game) claim (packed_by Bits (shape_of game) at)) goal_is two in
-    subst (λ (q : Game). IsSo (graph_of Bits given q) claim (packed_by Bits (shape_of q) at)) game_is three
+    let one = subst (λ (y : List ℕ). IsClaimSo (graph_of kind goal game) claim y) bytes so in
+    let two = subst (λ (q : PackingKind). IsClaimSo (graph_of q goal game) claim (packed_by q (shape_of game) at)) kind_is one in
+    let three = subst (λ (q : Option ℕ). IsClaimSo (graph_of Bits q game) claim (packed_by Bits (shape_of game) at)) goal_is two in
+    subst (λ (q : Game). IsClaimSo (graph_of Bits given q) claim (packed_by Bits (shape_of q) at)) game_is three
 
 -- what is not shown there is not shown of the game
 pub same_refusal : (claim : Claimed) (fault : CertificateFault) (behind : List ℕ) (kind : PackingKind) (goal given : Option ℕ) (game read : Game) (form : Form)
@@ -53,16 +53,16 @@ module _ (certificate : List ℕ) (given : Option (List ℕ)) (Prints : List ℕ
   -- what is printed of a value that was shown
   pub answers_shown : (value position : List ℕ) (looked : ℕ) → IsCertified certificate given position value
       → (status ≡ 4) ⊎ ((status ≡ 0) × Prints (shown_lines value position looked))
-      → (status ≡ 4) ⊎ ((written : List ℕ) × IsAnswer certificate given status written × Prints written)
+      → (status ≡ 4) ⊎ ((written : List ℕ) × IsCertificateAnswer certificate given status written × Prints written)
   answers_shown value position looked shown (inl failed) = inl failed
   answers_shown value position looked shown (inr (zero_is, prints)) =
       let lines = shown_lines value position looked in
-      inr (lines, subst (λ (s : ℕ). IsAnswer certificate given s lines) (sym zero_is) (certified value position looked shown), prints)
+      inr (lines, subst (λ (s : ℕ). IsCertificateAnswer certificate given s lines) (sym zero_is) (certified value position looked shown), prints)
 
   -- and of a refusal
-  pub answers_refused : (fault : CertificateFault) → IsRefused certificate given fault
+  pub answers_refused : (fault : CertificateFault) → IsCertificateRefused certificate given fault
       → (status ≡ 4) ⊎ ((status ≡ status_of fault) × Prints (refusal_line fault))
-      → (status ≡ 4) ⊎ ((written : List ℕ) × IsAnswer certificate given status written × Prints written)
+      → (status ≡ 4) ⊎ ((written : List ℕ) × IsCertificateAnswer certificate given status written × Prints written)
   answers_refused fault cause (inl failed) = inl failed
   answers_refused fault cause (inr (status_is, prints)) =
-      inr (refusal_line fault, subst (λ (s : ℕ). IsAnswer certificate given s (refusal_line fault)) (sym status_is) (refused fault cause), prints)
+      inr (refusal_line fault, subst (λ (s : ℕ). IsCertificateAnswer certificate given s (refusal_line fault)) (sym status_is) (refused fault cause), prints)

@@ -11,8 +11,8 @@ use Rattle.rbg_read.specs.declared.fault.GameFault.{GameFault}
 use Rattle.rbg_read.specs.declared.fault.GameFault.TheVariants as why
 use Rattle.certificate.specs.lemmas.Faults.{of_text}
 use Rattle.certificate.specs.Format.{Beginning, Begins}
-use Rattle.certificate.specs.Refusals.{Claims, IsRefused}
-use Rattle.certificate.specs.Refusals.{IsRefused as refused}
+use Rattle.certificate.specs.Refusals.{Claims, IsCertificateRefused}
+use Rattle.certificate.specs.Refusals.{IsCertificateRefused as refused}
 use Rattle.certificate.specs.lemmas.Reasons.{IsNoGame, IsNotShown}
 use Rattle.certificate.specs.lemmas.Reasons.{IsNotShown as lists}
 use Rattle.certificate.specs.declared.claim.Claimed.{Claimed}
@@ -38,13 +38,13 @@ no_game_of text fault given same says = subst (IsNoGame text) (sym same) (by_fau
 
 module _ (certificate : Text) (given : Option Text) (b : Beginning) (begins : Begins certificate b) where
   -- a certificate whose text is no game
-  pub refused_for_text : (fault : CertificateFault) → IsNoGame b.text fault → IsRefused certificate given fault
+  pub refused_for_text : (fault : CertificateFault) → IsNoGame b.text fault → IsCertificateRefused certificate given fault
   refused_for_text fault (cause.no_game why is) = refused.no_game b why begins is
   refused_for_text fault cause.no_memory = refused.no_memory
 
   -- or whose lists do not show what it claims
   pub refused_for_lists : (game : Game) (at : Position) (claimed : Claimed) → Claims certificate b game at claimed → (fault : CertificateFault)
-      → IsNotShown game b.goal claimed (packed_by Bits (shape_of game) at) b.behind fault → IsRefused certificate given fault
+      → IsNotShown game b.goal claimed (packed_by Bits (shape_of game) at) b.behind fault → IsCertificateRefused certificate given fault
   refused_for_lists game at claimed claims fault (lists.unread same why) = refused.no_lists b game at claimed fault claims why
   refused_for_lists game at claimed claims fault (lists.unshown first second same has why) =
       refused.not_shown b game at claimed first second fault claims has why

@@ -18,7 +18,7 @@ use Rattle.legal_moves.proofs.answers.FieldLemmas.{role_is, leader_is, leads}
 use Rattle.legal_moves.proofs.answers.ReachLemmas.{position_of}
 use Rattle.legal_moves.proofs.answers.SourceLemmas.{one_position}
 use Rattle.certificate.specs.Play.{play_of}
-use Rattle.certificate.specs.Claims.{IsSo}
+use Rattle.certificate.specs.Claims.{IsClaimSo}
 use Rattle.certificate.specs.declared.claim.Claimed.{Claimed}
 use Rattle.certificate.specs.declared.claim.Claimed.TheVariants as claimed
 
@@ -114,6 +114,6 @@ module _ (kind : PackingKind) (goal : Option ℕ) (game : Game) (sound : IsSound
 
   -- what is so of the bytes of a position is so of the position
   pub so_down : (claim : Claimed) (at : Position) → IsPositionOf game at
-      → IsSo (graph_of kind goal game) claim (packed_by kind (shape_of game) at) → IsSo (play_of goal game) claim at
+      → IsClaimSo (graph_of kind goal game) claim (packed_by kind (shape_of game) at) → IsClaimSo (play_of goal game) claim at
   so_down (claimed.Won w n) at here won = won_down w n (packed_by kind (shape_of game) at) at (at_bytes kind game at here) won
   so_down claimed.Drawn at here drawn = λ w n wins. drawn w n (wins_up w n (packed_by kind (shape_of game) at) at (at_bytes kind game at here) wins)

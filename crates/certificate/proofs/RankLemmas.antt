@@ -11,14 +11,14 @@ use Rattle.std.proofs.lemmas.Cmp.{nat_list_cmp_total}
 use Rattle.std.proofs.lemmas.List.{get_or-map, get_or_read, length-map}
 use Rattle.std.proofs.lemmas.List.Elements.{All-contains, All-map}
 use Rattle.certificate.specs.Format.{Ascends, Line}
-use Rattle.certificate.specs.Lists.{Stands, line_of, lines_in}
+use Rattle.certificate.specs.Lists.{HasRankedLine, line_of, lines_in}
 use Rattle.certificate.specs.declared.ranked.Ranked.{Ranked}
 use Rattle.certificate.proofs.GoingLemmas.{made_from}
 use Rattle.certificate.proofs.ListLemmas.{ComesBefore, last_ascends, more_ascends, not_before_itself}
 
 -- what holds of the bytes and the rank of each position of a list holds of whatever stands there
 pub at_each : (Q : List ℕ → ℕ → Type 0) (list : List Ranked) → All (λ r. Q r.at.items r.rank) list
-    → (x : List ℕ) (n : ℕ) → Stands list x n → Q x n
+    → (x : List ℕ) (n : ℕ) → HasRankedLine list x n → Q x n
 at_each Q list each x n there =
     All-contains (λ (l : Line). Q l.at l.rank) (lines_in list) (record { at = x; rank = n }) (All-map (λ (l : Line). Q l.at l.rank) line_of list each) there
 
@@ -72,11 +72,11 @@ module _ (list : List Ranked) (ascends : Ascends (lines_in list)) where
         ]
 
     -- the rank of a position that was found
-    pub rank_found : (i : ℕ) (r : Ranked) → i < length list → r ≡ get_or list i r → r.at.items ≡ at → (n : ℕ) → (Some r.rank ≡ Some n) ↔ Stands list at n
+    pub rank_found : (i : ℕ) (r : Ranked) → i < length list → r ≡ get_or list i r → r.at.items ≡ at → (n : ℕ) → (Some r.rank ≡ Some n) ↔ HasRankedLine list at n
     rank_found i r lt is here n = (
       λ same.
           let rank : r.rank ≡ n = cc in
-          subst (λ (m : ℕ). Stands list at m) rank (subst (λ (x : List ℕ). Stands list x r.rank) here (stands_there list i r lt is)),
+          subst (λ (m : ℕ). HasRankedLine list at m) rank (subst (λ (x : List ℕ). HasRankedLine list x r.rank) here (stands_there list i r lt is)),
       λ there.
           let (s, (k, within, at_k), line) = made_from line_of list (record { at = at; rank = n }) there in
           let s_at : s.at.items ≡ at = ap (λ (l : Line). l.at) line in
@@ -89,7 +89,7 @@ module _ (list : List Ranked) (ascends : Ascends (lines_in list)) where
 
     -- a position that is not where it would have to be is not there
     pub rank_missing : (place : ℕ) → IsPartitionPoint (λ (r : Ranked). comes_before r ≡ true) (λ (r : Ranked). comes_before r ≡ false) list place
-        → ((r : Ranked) → place < length list → r ≡ get_or list place r → r.at.items ≢ at) → (n : ℕ) → (None ≡ Some n) ↔ Stands list at n
+        → ((r : Ranked) → place < length list → r ≡ get_or list place r → r.at.items ≢ at) → (n : ℕ) → (None ≡ Some n) ↔ HasRankedLine list at n
     rank_missing place cut other n = (
       λ same. cc,
       λ there.

@@ -24,17 +24,17 @@ use Rattle.rbg_read.proofs.ProperNames.{proper}
 use Rattle.rbg_read.proofs.SoundGames.{read_sound}
 use Rattle.retrograde.specs.Graph.{Graph}
 use Rattle.legal_moves.specs.Sources.{IsPositionBytes, IsWideAt, graph_of}
-use Rattle.certificate.specs.Answers.{IsAnswer, refusal_line}
-use Rattle.certificate.specs.Answers.{IsAnswer as answer}
+use Rattle.certificate.specs.Answers.{IsCertificateAnswer, refusal_line}
+use Rattle.certificate.specs.Answers.{IsCertificateAnswer as answer}
 use Rattle.certificate.specs.Claims.{IsTheGiven, value_text}
 use Rattle.certificate.specs.Format.{AreLines, Beginning, Begins, HasLists, IsLine, Line, first_lines, first_manner, line_text, second_lines, second_manner}
-use Rattle.certificate.specs.Refusals.{AreUnread, Claims, ComesTo, IsCounted, IsRefused, IsUnclaimed}
+use Rattle.certificate.specs.Refusals.{AreUnread, Claims, ReadingComesTo, IsClaimCounted, IsCertificateRefused, IsUnclaimed}
 use Rattle.certificate.specs.Refusals.{AreUnread as unread}
-use Rattle.certificate.specs.Refusals.{ComesTo as comes}
-use Rattle.certificate.specs.Refusals.{IsRefused as refused}
+use Rattle.certificate.specs.Refusals.{ReadingComesTo as comes}
+use Rattle.certificate.specs.Refusals.{IsCertificateRefused as refused}
 use Rattle.certificate.specs.Refusals.{IsUnclaimed as unclaimed}
 use Rattle.certificate.specs.Right.{AreShown, ShowsItsClaim}
-use Rattle.certificate.specs.Shown.{AreNarrow, Follows, IsList, IsSearched, IsUnshown, Shows, claimed_moves}
+use Rattle.certificate.specs.Shown.{AreNarrow, Follows, IsList, IsSearched, IsUnshown, ShowsRank, claimed_moves}
 use Rattle.certificate.specs.Shown.{IsUnfollowed as unfollowed}
 use Rattle.certificate.specs.Shown.{IsUnshown as unshown}
 use Rattle.certificate.specs.lemmas.Parts.{EndsList}
@@ -73,7 +73,7 @@ module _ (game : Game) (sound : IsSoundGame game) (names : HasProperNames game) 
   no_blank = (omega arith, (omega arith, (omega arith, (omega arith, (omega arith, tt)))))
 
   -- a value tells what is claimed
-  one_claim : (c d : Claimed) → IsCounted c → IsCounted d → value_text game c ≡ value_text game d → c ≡ d
+  one_claim : (c d : Claimed) → IsClaimCounted c → IsClaimCounted d → value_text game c ≡ value_text game d → c ≡ d
   one_claim Drawn Drawn hc hd same = refl
   one_claim (Won v m) Drawn hc hd same =
       absurd (gone 32 (codes "drawn") (role_text game (role.Player v)) (codes "in " ++ decimal m) no_blank (sym same ∙ opened v m))
@@ -109,7 +109,7 @@ module _ (game : Game) (claimed : Claimed) (behind : List ℕ) (first second : L
       (length before, (let long = length-append before (line ∷ found.after) in omega arith), get_or_at before line found.after line (length before) refl)
 
   -- a line that reading comes to is one of them
-  is_position : (line : Line) → ComesTo game claimed behind line → All (λ (l : Line). IsPositionBytes Bits game l.at) first
+  is_position : (line : Line) → ReadingComesTo game claimed behind line → All (λ (l : Line). IsPositionBytes Bits game l.at) first
       → All (λ (l : Line). IsPositionBytes Bits game l.at) second → IsPositionBytes Bits game line.at
   is_position line (comes.in_first before same more each is texts) firsts seconds =
       All-contains (λ (l : Line). IsPositionBytes Bits game l.at) first line firsts
@@ -141,7 +141,7 @@ module _ (graph : Graph (List ℕ)) (x : List ℕ) where
 
   -- and x stands there
   shows : (claimed : Claimed) (first second : List Line) → AreShown graph claimed x first second → (manner : Manner) (w : Player) (list : List Line)
-      → IsList claimed first second manner w list → Shows manner list x (claimed_moves claimed)
+      → IsList claimed first second manner w list → ShowsRank manner list x (claimed_moves claimed)
   shows (Won v n) first second shown manner w list IsList.the_first = shown.0.1
   shows (Won v n) first second shown manner w list IsList.the_second = shown.1.1
   shows Drawn first second shown manner w list IsList.the_first = shown.0.1
@@ -202,7 +202,7 @@ module _ (certificate : List ℕ) (given : Option Text) (s : ShowsItsClaim certi
       let here = subst (λ (g : Game). IsSpelled g at s.b.position) game_is (subst (λ (c : Beginning). IsSpelled game at c.position) b_is spelled) in
       told s.game sound names at s.at here.position s.claims.spelled.position (sym here.text_is ∙ s.claims.spelled.text_is)
 
-  same_value : (b : Beginning) (game : Game) (claimed : Claimed) → b ≡ s.b → game ≡ s.game → IsCounted claimed
+  same_value : (b : Beginning) (game : Game) (claimed : Claimed) → b ≡ s.b → game ≡ s.game → IsClaimCounted claimed
       → b.value ≡ value_text game claimed → claimed ≡ s.claimed
   same_value b game claimed b_is game_is counted named =
       one_claim s.game sound names claimed s.claimed counted s.claims.counted
@@ -243,7 +243,7 @@ module _ (certificate : List ℕ) (given : Option Text) (s : ShowsItsClaim certi
         (packed_by Bits (shape_of s.game) s.at) s.first l fault) lists.1 one)
 
   -- each other cause is against it
-  is_allowed : (fault : CertificateFault) → IsRefused certificate given fault → IsAllowed fault
+  is_allowed : (fault : CertificateFault) → IsCertificateRefused certificate given fault → IsAllowed fault
   is_allowed fault (refused.too_long long) = let short = s.short in absurd (omega arith)
   is_allowed fault (refused.no_beginning none) = absurd (none s.b s.claims.begins)
   is_allowed fault (refused.no_game b why begins is) =
@@ -261,7 +261,7 @@ module _ (certificate : List ℕ) (given : Option Text) (s : ShowsItsClaim certi
   is_allowed fault refused.no_memory = inr refl
 
   -- it is certified, or refused for one of those two
-  pub is_certified : (status : ℕ) (written : List ℕ) → IsAnswer certificate given status written
+  pub is_certified : (status : ℕ) (written : List ℕ) → IsCertificateAnswer certificate given status written
       → (status ≡ 0) ⊎ ((written ≡ refusal_line TooWide) ⊎ (written ≡ refusal_line OutOfMemory))
   is_certified status written (answer.certified value position looked is) = inl refl
   is_certified status written (answer.refused fault why) =
@@ -278,7 +278,7 @@ module _ (certificate : List ℕ) (given : Option Text) (s : ShowsItsClaim certi
   not_wide narrow manner w list IsList.the_second line here =
       All-contains (λ (l : Line). IsSearched (second_manner s.claimed) l → ¬ IsWideAt Bits s.game l.at) s.second line narrow.1 here
 
-  pub is_accepted : AreNarrow (IsWideAt Bits s.game) s.claimed s.first s.second → (status : ℕ) (written : List ℕ) → IsAnswer certificate given status written
+  pub is_accepted : AreNarrow (IsWideAt Bits s.game) s.claimed s.first s.second → (status : ℕ) (written : List ℕ) → IsCertificateAnswer certificate given status written
       → (status ≡ 0) ⊎ (written ≡ refusal_line OutOfMemory)
   is_accepted narrow status written (answer.certified value position looked is) = inl refl
   is_accepted narrow status written (answer.refused fault why) =

@@ -10,7 +10,7 @@ use Rattle.certificate.specs.Format.{Line}
 use Rattle.certificate.specs.Lists.{Has}
 use Rattle.certificate.specs.Shown.{Follows, IsSearched, IsUnfollowed}
 use Rattle.certificate.specs.Shown.{IsUnfollowed as unfollowed}
-use Rattle.certificate.specs.Strategies.{IsStrategy, IsDelay, IsSafe, RanksFrom}
+use Rattle.certificate.specs.Strategies.{IsStrategy, IsDelay, IsSafeSet, RanksFrom}
 use Rattle.certificate.specs.lemmas.Faults.{of_search}
 use Rattle.certificate.specs.declared.manner.Manner.{Manner}
 use Rattle.certificate.specs.declared.manner.Manner.TheVariants.{AtMost, AtLeast, Never}
@@ -23,7 +23,7 @@ module _ (graph : Graph (List ℕ)) (w : Player) (list : List Line) where
   pub delay_of : All (Follows graph AtLeast w list) list → IsDelay graph w (Has list)
   delay_of all = λ x n there. All-contains (Follows graph AtLeast w list) list (record { at = x; rank = n }) all there
 
-  pub safe_of : All (Follows graph Never w list) list → IsSafe graph w (RanksFrom (Has list) NEVER)
+  pub safe_of : All (Follows graph Never w list) list → IsSafeSet graph w (RanksFrom (Has list) NEVER)
   safe_of all = λ x here. elim here [
     | inl none ↦ absurd (omega (arith, none))
     | inr (m, there, le) ↦ All-contains (Follows graph Never w list) list (record { at = x; rank = m }) all there

@@ -4,7 +4,7 @@ use Rattle.std.proofs.Common.{ℕ, zero, suc, ◌≤◌, inl, inr, arith}
 use Rattle.rbg_game.specs.declared.roles.Player.{Player}
 use Rattle.retrograde.specs.Graph.{Graph}
 use Rattle.retrograde.specs.Values.{WinsWithin, WonIn}
-use Rattle.certificate.specs.Strategies.{RanksFrom, GoesDown, IsStrategy, IsDelay, IsSafe}
+use Rattle.certificate.specs.Strategies.{RanksFrom, GoesDown, IsStrategy, IsDelay, IsSafeSet}
 
 module _ {P : Type 0} (graph : Graph P) (w : Player) where
   module _ (Ranks : P → ℕ → Type 0) (strategy : IsStrategy graph w Ranks) where
@@ -43,7 +43,7 @@ module _ {P : Type 0} (graph : Graph P) (w : Player) where
               omega arith
         ]
 
-  module _ (In : P → Type 0) (safe : IsSafe graph w In) where
+  module _ (In : P → Type 0) (safe : IsSafeSet graph w In) where
     pub safe_is_never_won : (m : ℕ) (x : P) → In x → WinsWithin graph w m x → ⊥
     safe_is_never_won zero x here ends = (safe x here).not_won ends
     safe_is_never_won (suc m) x here (inl ends) = (safe x here).not_won ends

@@ -13,7 +13,7 @@ use Rattle.certificate.specs.Format.{HasLists, Line, first_lines, first_manner, 
 use Rattle.certificate.specs.Lists.{line_of, lines_in}
 use Rattle.certificate.specs.Refusals.{AreUnread}
 use Rattle.certificate.specs.Refusals.{AreUnread as unread}
-use Rattle.certificate.specs.Refusals.{ComesTo as comes}
+use Rattle.certificate.specs.Refusals.{ReadingComesTo as comes}
 use Rattle.certificate.specs.lemmas.Parts.{AreOfPositions, IsListRefused, IsReadList}
 use Rattle.certificate.specs.lemmas.Parts.{AreLinesRefused as are_lines}
 use Rattle.certificate.specs.lemmas.Parts.{IsListRefused as is_list}

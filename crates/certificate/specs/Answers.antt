@@ -4,7 +4,7 @@ use Rattle.std.specs.Fmt.{decimal}
 use Rattle.rbg_text.specs.Token.{Text}
 use Rattle.certificate.specs.Claims.{IsCertified}
 use Rattle.certificate.specs.Codes.{fault_code}
-use Rattle.certificate.specs.Refusals.{IsRefused}
+use Rattle.certificate.specs.Refusals.{IsCertificateRefused}
 use Rattle.certificate.specs.declared.fault.CertificateFault.{CertificateFault}
 use Rattle.certificate.specs.declared.fault.CertificateFault.TheVariants.{OutOfMemory}
 
@@ -24,7 +24,7 @@ status_of _ = 1
 
 -- the status and what is written of a certificate, beside which the text of a game may be given: a value that is certified is so; and a code
 -- with which it is refused has its cause
-pub data IsAnswer (certificate : List ℕ) (given : Option Text) : ℕ → List ℕ → Type 0 where
+pub data IsCertificateAnswer (certificate : List ℕ) (given : Option Text) : ℕ → List ℕ → Type 0 where
   certified : (value position : List ℕ) (looked : ℕ) → IsCertified certificate given position value
-      → IsAnswer certificate given 0 (shown_lines value position looked)
-  refused : (fault : CertificateFault) → IsRefused certificate given fault → IsAnswer certificate given (status_of fault) (refusal_line fault)
+      → IsCertificateAnswer certificate given 0 (shown_lines value position looked)
+  refused : (fault : CertificateFault) → IsCertificateRefused certificate given fault → IsCertificateAnswer certificate given (status_of fault) (refusal_line fault)

@@ -31,9 +31,9 @@ head_of goal text position value =
     ++ 10 ∷ codes "position " ++ position ++ 10 ∷ codes "value " ++ value ++ 10 ∷ []
 
 -- the claimed player wins in exactly the claimed number of moves, or nobody wins
-abbrev pub IsSo : {P : Type 0} → Graph P → Claimed → P → Type 0
-IsSo graph (Won player moves) x = WonIn graph player moves x
-IsSo graph Drawn x = IsDrawn graph x
+abbrev pub IsClaimSo : {P : Type 0} → Graph P → Claimed → P → Type 0
+IsClaimSo graph (Won player moves) x = WonIn graph player moves x
+IsClaimSo graph Drawn x = IsDrawn graph x
 
 -- this is the text that was given, if one was
 abbrev pub IsTheGiven : Option Text → Text → Type 0
@@ -52,7 +52,7 @@ pub record IsTrueClaim (certificate : List ℕ) (text : Text) (position value : 
   pub spelled : IsSpelled game at position
   pub claimed : Claimed
   pub named : value ≡ value_text game claimed
-  pub so : IsSo (play_of goal game) claimed at
+  pub so : IsClaimSo (play_of goal game) claimed at
 
 -- and its text is the one that was given, if one was
 abbrev pub IsCertified : List ℕ → Option Text → List ℕ → List ℕ → Type 0

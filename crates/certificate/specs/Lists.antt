@@ -15,5 +15,5 @@ abbrev pub lines_in : List Ranked → List Line
 lines_in = map line_of
 
 -- a list that was read has this line, by its number
-abbrev pub Stands : List Ranked → List ℕ → ℕ → Type 0
-Stands list = Has (lines_in list)
+abbrev pub HasRankedLine : List Ranked → List ℕ → ℕ → Type 0
+HasRankedLine list = Has (lines_in list)

@@ -14,7 +14,7 @@ use Rattle.certificate.specs.Format.{Beginning, HasLists, Line}
 use Rattle.certificate.specs.Lists.{Has}
 use Rattle.certificate.specs.Refusals.{Claims}
 use Rattle.certificate.specs.Shown.{AreNarrow}
-use Rattle.certificate.specs.Strategies.{IsDelay, IsSafe, IsStrategy, RanksFrom}
+use Rattle.certificate.specs.Strategies.{IsDelay, IsSafeSet, IsStrategy, RanksFrom}
 use Rattle.certificate.specs.declared.claim.Claimed.{Claimed}
 use Rattle.certificate.specs.declared.claim.Claimed.TheVariants.{Won, Drawn}
 use Rattle.certificate.specs.declared.limits.TheConstants.{MAX_CERTIFICATE_BYTES}
@@ -26,8 +26,8 @@ abbrev pub AreShown : Graph (List ℕ) → Claimed → List ℕ → List Line �
 AreShown graph (Won w n) x first second =
     (IsStrategy graph w (Has first) × Has first x n) × (IsDelay graph w (Has second) × RanksFrom (Has second) n x)
 AreShown graph Drawn x first second =
-    (IsSafe graph First (RanksFrom (Has first) NEVER) × RanksFrom (Has first) NEVER x)
-    × (IsSafe graph Second (RanksFrom (Has second) NEVER) × RanksFrom (Has second) NEVER x)
+    (IsSafeSet graph First (RanksFrom (Has first) NEVER) × RanksFrom (Has first) NEVER x)
+    × (IsSafeSet graph Second (RanksFrom (Has second) NEVER) × RanksFrom (Has second) NEVER x)
 
 -- a certificate that is written as it has to be, of the game that was given if one was; whose lines have bytes of positions of the game; and
 -- whose lists show what it claims

@@ -20,10 +20,10 @@ Follows graph AtLeast w list line = IsHeldFor graph w (Has list) line.at line.ra
 Follows graph Never w list line = IsHeld graph w (RanksFrom (Has list) NEVER) line.at
 
 -- a list has the position that is claimed to be won in n moves with such a rank: n, or n or more; in `never` with the rank that all have
-abbrev pub Shows : Manner → List Line → List ℕ → ℕ → Type 0
-Shows AtMost list x n = Has list x n
-Shows AtLeast list x n = RanksFrom (Has list) n x
-Shows Never list x n = RanksFrom (Has list) NEVER x
+abbrev pub ShowsRank : Manner → List Line → List ℕ → ℕ → Type 0
+ShowsRank AtMost list x n = Has list x n
+ShowsRank AtLeast list x n = RanksFrom (Has list) n x
+ShowsRank Never list x n = RanksFrom (Has list) NEVER x
 
 -- the number of moves that is claimed, which is none of a draw
 abbrev pub claimed_moves : Claimed → ℕ
@@ -37,11 +37,11 @@ IsSearched AtLeast line = line.rank ≢ 0
 IsSearched Never line = Unit {0}
 
 -- no such search is too wide: at the lines of one list, and of both
-abbrev pub IsNarrow : (List ℕ → Type 0) → Manner → List Line → Type 0
-IsNarrow Wide manner list = All (λ (line : Line). IsSearched manner line → ¬ Wide line.at) list
+abbrev pub IsListNarrow : (List ℕ → Type 0) → Manner → List Line → Type 0
+IsListNarrow Wide manner list = All (λ (line : Line). IsSearched manner line → ¬ Wide line.at) list
 
 abbrev pub AreNarrow : (List ℕ → Type 0) → Claimed → List Line → List Line → Type 0
-AreNarrow Wide claimed first second = IsNarrow Wide (first_manner claimed) first × IsNarrow Wide (second_manner claimed) second
+AreNarrow Wide claimed first second = IsListNarrow Wide (first_manner claimed) first × IsListNarrow Wide (second_manner claimed) second
 
 -- one of the two lists: what it says, and of whom
 pub data IsList (claimed : Claimed) (first second : List Line) : Manner → Player → List Line → Type 0 where
@@ -61,4 +61,4 @@ pub data IsUnshown (graph : Graph (List ℕ)) (Wide : List ℕ → Type 0) (clai
   unfollowed : (manner : Manner) (w : Player) (list : List Line) (fault : CertificateFault) → IsList claimed first second manner w list
       → IsUnfollowed graph Wide manner w list fault → IsUnshown graph Wide claimed x first second fault
   not_there : (manner : Manner) (w : Player) (list : List Line) → IsList claimed first second manner w list
-      → ¬ Shows manner list x (claimed_moves claimed) → IsUnshown graph Wide claimed x first second NotShown
+      → ¬ ShowsRank manner list x (claimed_moves claimed) → IsUnshown graph Wide claimed x first second NotShown

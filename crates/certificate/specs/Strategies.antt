@@ -38,5 +38,5 @@ abbrev pub IsDelay : {P : Type 0} → Graph P → Player → (P → ℕ → Type
 IsDelay {P} graph w Ranks = (x : P) (n : ℕ) → Ranks x n → IsHeldFor graph w Ranks x n
 
 -- a set that is safe from w: w is held in it
-abbrev pub IsSafe : {P : Type 0} → Graph P → Player → (P → Type 0) → Type 0
-IsSafe {P} graph w In = (x : P) → In x → IsHeld graph w In x
+abbrev pub IsSafeSet : {P : Type 0} → Graph P → Player → (P → Type 0) → Type 0
+IsSafeSet {P} graph w In = (x : P) → In x → IsHeld graph w In x

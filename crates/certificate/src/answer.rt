@@ -1,7 +1,7 @@
 //! The answer to a certificate, as it is printed.
 ghost use Rattle.std.specs.Prelude.{◌≡◌, ◌⊎◌, ℕ, List, OnOk, option_map};
 ghost use Rattle.std.specs.Io.KnownBytes.{Appends};
-ghost use Rattle.certificate.specs.Answers.{IsAnswer, refusal_line, shown_lines, status_of};
+ghost use Rattle.certificate.specs.Answers.{IsCertificateAnswer, refusal_line, shown_lines, status_of};
 
 use crate::certified::{Certified, check};
 use crate::fault::{CertificateFault, Refusal};
@@ -25,7 +25,7 @@ pub fn check_to<W: Write>(
     text: Option<&[u8]>,
     out: &mut W,
 ) -> Answer
-    ensures { (result.status ≡ 4) ⊎ ((written : List ℕ) × IsAnswer certificate.now (option_map (λ given. given.now) text.entry)
+    ensures { (result.status ≡ 4) ⊎ ((written : List ℕ) × IsCertificateAnswer certificate.now (option_map (λ given. given.now) text.entry)
         result.status written
         × Appends (W.contents out.old) (W.contents out.new) written) }
 {

@@ -10,8 +10,8 @@ ghost use Rattle.position_pack.specs.Spelled.{IsSpelled};
 ghost use Rattle.position_pack.specs.declared.kind.PackingKind.TheVariants.{Bits};
 ghost use Rattle.rbg_read.specs.Reads.{Reads};
 ghost use Rattle.legal_moves.specs.Sources.{graph_of};
-ghost use Rattle.certificate.specs.Claims.{IsCertified, IsSo, IsTheGiven, value_text};
-ghost use Rattle.certificate.specs.Refusals.{IsCounted, IsRefused, IsUnclaimed};
+ghost use Rattle.certificate.specs.Claims.{IsCertified, IsClaimSo, IsTheGiven, value_text};
+ghost use Rattle.certificate.specs.Refusals.{IsClaimCounted, IsCertificateRefused, IsUnclaimed};
 ghost use Rattle.certificate.specs.Right.{ShowsThis};
 ghost use Rattle.certificate.specs.lemmas.Reasons.{AreTheLists, IsNoGame, IsNotShown};
 
@@ -60,7 +60,7 @@ pub fn check<'a>(
         shown.value.now) }
     ensures shows { IfOk result (λ shown. ShowsThis certificate.now (option_map (λ given. given.now) text.entry) shown.position.now
         shown.claimed) }
-    ensures refused { IfErr result (λ refusal. IsRefused certificate.now (option_map (λ given. given.now) text.entry) refusal.fault) }
+    ensures refused { IfErr result (λ refusal. IsCertificateRefused certificate.now (option_map (λ given. given.now) text.entry) refusal.fault) }
 {
     if certificate.len() > MAX_CERTIFICATE_BYTES {
         return Err(Refusal::at(CertificateFault::Malformed, certificate));
@@ -109,7 +109,7 @@ fn claim_in(game: &Game, head: &Head<'_>) -> Result<Claim, Refusal>
     requires names { HasProperNames (game_of game.now) }
     ensures spelled { IfOk result (λ claim. IsSpelled (game_of game.now) claim.at head.now.position.now) }
     ensures named { IfOk result (λ claim. head.now.value.now ≡ value_text (game_of game.now) claim.claimed) }
-    ensures counted { IfOk result (λ claim. IsCounted claim.claimed) }
+    ensures counted { IfOk result (λ claim. IsClaimCounted claim.claimed) }
     ensures fault { IfErr result (λ refusal. IsUnclaimed (game_of game.now) head.now.position.now head.now.value.now refusal.fault) }
 {
     let Some(at) = read_position(game, head.position) else {
@@ -130,7 +130,7 @@ fn show_claim(
     lists: &[u8],
 ) -> Result<usize, Refusal>
     requires { IsSoundGame (game_of game) }
-    ensures so { OnOk result (IsSo (graph_of Bits (points_of goal) (game_of game)) claim.now.claimed
+    ensures so { OnOk result (IsClaimSo (graph_of Bits (points_of goal) (game_of game)) claim.now.claimed
         (packed_by Bits (shape_of (game_of game)) claim.now.at)) }
     ensures shown { OnOk result (AreTheLists (game_of game) (points_of goal) claim.now.claimed
         (packed_by Bits (shape_of (game_of game)) claim.now.at) lists.now) }

@@ -7,7 +7,7 @@ ghost use Rattle.rbg_game.specs.Sound.{IsSoundGame};
 ghost use Rattle.rbg_game.specs.declared.roles.Role.TheVariants as role;
 ghost use Rattle.position_pack.specs.Texts.{role_text};
 ghost use Rattle.certificate.specs.Claims.{goal_line, head_of, value_text};
-ghost use Rattle.certificate.specs.Refusals.{IsCounted};
+ghost use Rattle.certificate.specs.Refusals.{IsClaimCounted};
 ghost use Rattle.certificate.specs.declared.claim.Claimed.{Claimed as SpecClaimed};
 
 use crate::lines::{after, number};
@@ -72,8 +72,8 @@ impl Claimed {
 /// The value that these bytes write.
 pub(crate) fn claimed_in(game: &Game, value: &[u8]) -> Option<Claimed>
     requires { IsSoundGame (game_of game.now) }
-    ensures { MatchOption result ((claimed : SpecClaimed) → IsCounted claimed → value.now ≢ value_text (game_of game.now) claimed)
-        (λ claimed. IsCounted claimed × (value.now ≡ value_text (game_of game.now) claimed)) }
+    ensures { MatchOption result ((claimed : SpecClaimed) → IsClaimCounted claimed → value.now ≢ value_text (game_of game.now) claimed)
+        (λ claimed. IsClaimCounted claimed × (value.now ≡ value_text (game_of game.now) claimed)) }
 {
     if value == b"drawn".as_slice() {
         return Some(Claimed::Drawn);

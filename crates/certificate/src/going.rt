@@ -2,7 +2,7 @@
 ghost use Rattle.std.specs.Prelude.{◌≡◌, ◌↔◌, true, IfOk, IsOk, Some, Err};
 ghost use Rattle.rbg_game.specs.declared.roles.Role.{Role};
 ghost use Rattle.certificate.specs.Format.{Ascends};
-ghost use Rattle.certificate.specs.Lists.{Stands, lines_in};
+ghost use Rattle.certificate.specs.Lists.{HasRankedLine, lines_in};
 ghost use Rattle.certificate.specs.Strategies.{GoesDown, IsHeld, RanksBelow, RanksFrom};
 ghost use Rattle.certificate.specs.lemmas.Found.{SomeOf, EachOf};
 
@@ -29,7 +29,7 @@ fn is_ahead(ahead: Option<Player>, player: Player) -> bool
 /// Whether some of these positions is found with a rank below this one.
 fn some_below(list: &[Ranked], found: &[Packed], rank: u32) -> bool
     requires { Ascends (lines_in list.now) }
-    ensures { (result ≡ true) ↔ SomeOf found.now (RanksBelow (Stands list.now) rank) }
+    ensures { (result ≡ true) ↔ SomeOf found.now (RanksBelow (HasRankedLine list.now) rank) }
 {
     for next in found {
         if ranks_below(list, next, rank) {
@@ -42,7 +42,7 @@ fn some_below(list: &[Ranked], found: &[Packed], rank: u32) -> bool
 /// Whether each of these positions is found with a rank below this one.
 fn each_below(list: &[Ranked], found: &[Packed], rank: u32) -> bool
     requires { Ascends (lines_in list.now) }
-    ensures { (result ≡ true) ↔ EachOf found.now (RanksBelow (Stands list.now) rank) }
+    ensures { (result ≡ true) ↔ EachOf found.now (RanksBelow (HasRankedLine list.now) rank) }
 {
     for next in found {
         if !ranks_below(list, next, rank) {
@@ -55,7 +55,7 @@ fn each_below(list: &[Ranked], found: &[Packed], rank: u32) -> bool
 /// Whether some of these positions is found with this rank or a greater one.
 fn some_from(list: &[Ranked], found: &[Packed], rank: u32) -> bool
     requires { Ascends (lines_in list.now) }
-    ensures { (result ≡ true) ↔ SomeOf found.now (RanksFrom (Stands list.now) rank) }
+    ensures { (result ≡ true) ↔ SomeOf found.now (RanksFrom (HasRankedLine list.now) rank) }
 {
     for next in found {
         if ranks_from(list, next, rank) {
@@ -68,7 +68,7 @@ fn some_from(list: &[Ranked], found: &[Packed], rank: u32) -> bool
 /// Whether each of these positions is found with this rank or a greater one.
 fn each_from(list: &[Ranked], found: &[Packed], rank: u32) -> bool
     requires { Ascends (lines_in list.now) }
-    ensures { (result ≡ true) ↔ EachOf found.now (RanksFrom (Stands list.now) rank) }
+    ensures { (result ≡ true) ↔ EachOf found.now (RanksFrom (HasRankedLine list.now) rank) }
 {
     for next in found {
         if !ranks_from(list, next, rank) {
@@ -89,7 +89,7 @@ pub fn goes_down<M: MoveSource>(
 ) -> Result<bool, MoveFault>
     requires sound { M.is_sound source.now }
     requires ascends { Ascends (lines_in list.now) }
-    ensures is { IfOk result (λ is. (is ≡ true) ↔ GoesDown (M.graph source.now) player (Stands list.now) at.now.items rank) }
+    ensures is { IfOk result (λ is. (is ≡ true) ↔ GoesDown (M.graph source.now) player (HasRankedLine list.now) at.now.items rank) }
     ensures wide { result ≡ Err MoveFault.TooWide → M.is_wide source.now at.now.items }
     ensures narrow { IsOk result → ¬ M.is_wide source.now at.now.items }
 {
@@ -114,7 +114,7 @@ pub fn is_held<M: MoveSource>(
 ) -> Result<bool, MoveFault>
     requires sound { M.is_sound source.now }
     requires ascends { Ascends (lines_in list.now) }
-    ensures is { IfOk result (λ is. (is ≡ true) ↔ IsHeld (M.graph source.now) player (RanksFrom (Stands list.now) rank) at.now.items) }
+    ensures is { IfOk result (λ is. (is ≡ true) ↔ IsHeld (M.graph source.now) player (RanksFrom (HasRankedLine list.now) rank) at.now.items) }
     ensures wide { result ≡ Err MoveFault.TooWide → M.is_wide source.now at.now.items }
     ensures narrow { IsOk result → ¬ M.is_wide source.now at.now.items }
 {

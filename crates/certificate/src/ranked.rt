@@ -4,7 +4,7 @@ ghost use Rattle.std.specs.Cmp.Lexicographic.{slice_cmp};
 ghost use Rattle.std.specs.Ordering.{is_lt, nat_cmp};
 ghost use Rattle.position_pack.specs.declared.limits.TheConstants.{MAX_PACKED};
 ghost use Rattle.certificate.specs.Format.{Ascends};
-ghost use Rattle.certificate.specs.Lists.{Stands, lines_in};
+ghost use Rattle.certificate.specs.Lists.{HasRankedLine, lines_in};
 ghost use Rattle.certificate.specs.Strategies.{RanksBelow, RanksFrom};
 
 use position_pack::Packed;
@@ -26,7 +26,7 @@ pub fn is_before(ranked: &Ranked, at: &[u8]) -> bool
 /// The rank of a position. It is looked for by halves, and found since the list ascends.
 fn rank_of(list: &[Ranked], at: &[u8]) -> Option<u32>
     requires { Ascends (lines_in list.now) }
-    ensures { (n : ℕ) → (result ≡ Some n) ↔ Stands list.now at.now n }
+    ensures { (n : ℕ) → (result ≡ Some n) ↔ HasRankedLine list.now at.now n }
 {
     let place = list.partition_point(|ranked| is_before(ranked, at));
     if place >= list.len() {
@@ -43,7 +43,7 @@ fn rank_of(list: &[Ranked], at: &[u8]) -> Option<u32>
 /// Whether a position is found with this rank.
 pub fn ranks_as(list: &[Ranked], at: &[u8], rank: u32) -> bool
     requires { Ascends (lines_in list.now) }
-    ensures { (result ≡ true) ↔ Stands list.now at.now rank }
+    ensures { (result ≡ true) ↔ HasRankedLine list.now at.now rank }
 {
     match rank_of(list, at) {
         Some(found) => found == rank,
@@ -54,7 +54,7 @@ pub fn ranks_as(list: &[Ranked], at: &[u8], rank: u32) -> bool
 /// Whether a position is found with a rank below this one.
 pub fn ranks_below(list: &[Ranked], at: &[u8], rank: u32) -> bool
     requires { Ascends (lines_in list.now) }
-    ensures { (result ≡ true) ↔ RanksBelow (Stands list.now) rank at.now }
+    ensures { (result ≡ true) ↔ RanksBelow (HasRankedLine list.now) rank at.now }
 {
     match rank_of(list, at) {
         Some(found) => found < rank,
@@ -65,7 +65,7 @@ pub fn ranks_below(list: &[Ranked], at: &[u8], rank: u32) -> bool
 /// Whether a position is found with this rank or a greater one; where this one is 0, nothing is looked for.
 pub fn ranks_from(list: &[Ranked], at: &[u8], rank: u32) -> bool
     requires { Ascends (lines_in list.now) }
-    ensures { (result ≡ true) ↔ RanksFrom (Stands list.now) rank at.now }
+    ensures { (result ≡ true) ↔ RanksFrom (HasRankedLine list.now) rank at.now }
 {
     if rank == 0 {
         return true;

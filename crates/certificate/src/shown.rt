@@ -3,7 +3,7 @@ ghost use Rattle.std.specs.Prelude.{◌≡◌, OnOk, IfOk, IfErr};
 ghost use Rattle.position_pack.specs.declared.kind.PackingKind.TheVariants.{Bits};
 ghost use Rattle.legal_moves.specs.Compiled.{IsSoundCompiled, compiled_game, compiled_goal, packing_kind};
 ghost use Rattle.legal_moves.specs.Sources.{IsWideAt, graph_of};
-ghost use Rattle.certificate.specs.Claims.{IsSo};
+ghost use Rattle.certificate.specs.Claims.{IsClaimSo};
 ghost use Rattle.certificate.specs.Refusals.{AreUnread};
 ghost use Rattle.certificate.specs.Right.{AreShown};
 ghost use Rattle.certificate.specs.Shown.{AreNarrow, IsUnshown};
@@ -36,7 +36,7 @@ pub fn show_value(
 ) -> Result<usize, Refusal>
     requires sound { IsSoundCompiled compiled.now }
     requires kind { packing_kind compiled.now ≡ Bits }
-    ensures so { OnOk result (IsSo (graph_of (packing_kind compiled.now) (compiled_goal compiled.now) (compiled_game compiled.now)) claimed at.now.items) }
+    ensures so { OnOk result (IsClaimSo (graph_of (packing_kind compiled.now) (compiled_goal compiled.now) (compiled_game compiled.now)) claimed at.now.items) }
     ensures shown { OnOk result (AreTheLists (compiled_game compiled.now) (compiled_goal compiled.now) claimed at.now.items behind.now) }
     ensures fault { IfErr result (λ refusal. IsNotShown (compiled_game compiled.now) (compiled_goal compiled.now) claimed at.now.items behind.now
         refusal.fault) }
@@ -86,7 +86,7 @@ fn show_by(
     requires sound { IsSoundCompiled compiled.now }
     requires first { AreAsked lists.now.first.list.items }
     requires second { AreAsked lists.now.second.list.items }
-    ensures so { OnOk result (IsSo (graph_of (packing_kind compiled.now) (compiled_goal compiled.now) (compiled_game compiled.now)) claimed at.now.items) }
+    ensures so { OnOk result (IsClaimSo (graph_of (packing_kind compiled.now) (compiled_goal compiled.now) (compiled_game compiled.now)) claimed at.now.items) }
     ensures shown { OnOk result (AreShown (graph_of (packing_kind compiled.now) (compiled_goal compiled.now) (compiled_game compiled.now)) claimed
         at.now.items (lines_in lists.now.first.list.items) (lines_in lists.now.second.list.items)) }
     ensures narrow { OnOk result (AreNarrow (IsWideAt (packing_kind compiled.now) (compiled_game compiled.now)) claimed

@@ -3,7 +3,7 @@ ghost use Rattle.std.specs.Prelude.{◌≡◌, ◌↔◌, ℕ, All, true, OnOk, 
 ghost use Rattle.retrograde.specs.Values.{WonIn, Drawn};
 ghost use Rattle.certificate.specs.Lists.{lines_in};
 ghost use Rattle.certificate.specs.Right.{AreShown};
-ghost use Rattle.certificate.specs.Shown.{AreNarrow, Follows, IsNarrow, Shows, IsUnfollowed, IsUnshown};
+ghost use Rattle.certificate.specs.Shown.{AreNarrow, Follows, IsListNarrow, ShowsRank, IsUnfollowed, IsUnshown};
 ghost use Rattle.certificate.specs.Format.{Ascends};
 ghost use Rattle.certificate.specs.lemmas.Faults.{of_search};
 ghost use Rattle.certificate.specs.lemmas.Parts.{AreAsked};
@@ -84,7 +84,7 @@ fn all_follow<M: MoveSource>(
     requires sound { M.is_sound source.now }
     requires asked { AreAsked listed.now.list.items }
     ensures so { OnOk result (All (Follows (M.graph source.now) manner player (lines_in listed.now.list.items)) (lines_in listed.now.list.items)) }
-    ensures narrow { OnOk result (IsNarrow (M.is_wide source.now) manner (lines_in listed.now.list.items)) }
+    ensures narrow { OnOk result (IsListNarrow (M.is_wide source.now) manner (lines_in listed.now.list.items)) }
     ensures fault { IfErr result (λ refusal. IsUnfollowed (M.graph source.now) (M.is_wide source.now) manner player
         (lines_in listed.now.list.items) refusal.fault) }
 {
@@ -98,9 +98,9 @@ fn all_follow<M: MoveSource>(
 /// That a list has the position with such a rank.
 fn has_shown(manner: Manner, listed: &Listed, at: &Packed, moves: u32) -> Result<(), Refusal>
     requires { AreAsked listed.now.list.items }
-    ensures so { OnOk result (Shows manner (lines_in listed.now.list.items) at.now.items moves) }
+    ensures so { OnOk result (ShowsRank manner (lines_in listed.now.list.items) at.now.items moves) }
     ensures fault { IfErr result (λ refusal. refusal.fault ≡ fault.NotShown) }
-    ensures not_there { IfErr result (λ _. ¬ Shows manner (lines_in listed.now.list.items) at.now.items moves) }
+    ensures not_there { IfErr result (λ _. ¬ ShowsRank manner (lines_in listed.now.list.items) at.now.items moves) }
 {
     if shows(manner, &listed.list, at, moves) {
         Ok(())
@@ -112,7 +112,7 @@ fn has_shown(manner: Manner, listed: &Listed, at: &Packed, moves: u32) -> Result
 /// Whether a list has the position with such a rank.
 fn shows(manner: Manner, list: &[Ranked], at: &[u8], moves: u32) -> bool
     requires { Ascends (lines_in list.now) }
-    ensures { (result ≡ true) ↔ Shows manner (lines_in list.now) at.now moves }
+    ensures { (result ≡ true) ↔ ShowsRank manner (lines_in list.now) at.now moves }
 {
     match manner {
         Manner::AtMost => ranks_as(list, at, moves),

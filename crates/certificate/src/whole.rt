@@ -2,8 +2,8 @@
 ghost use Rattle.std.specs.Prelude.{◌≡◌, ◌≢◌, ◌≤◌, ◌↔◌, All, Contains, length, true, IfOk, IsOk, Ok, Err, None, MatchOption};
 ghost use Rattle.position_pack.specs.declared.limits.TheConstants.{MAX_PACKED};
 ghost use Rattle.certificate.specs.Format.{Ascends, Line};
-ghost use Rattle.certificate.specs.Lists.{Stands, line_of, lines_in};
-ghost use Rattle.certificate.specs.Shown.{Follows, IsNarrow, IsSearched};
+ghost use Rattle.certificate.specs.Lists.{HasRankedLine, line_of, lines_in};
+ghost use Rattle.certificate.specs.Shown.{Follows, IsListNarrow, IsSearched};
 ghost use Rattle.certificate.specs.Strategies.{IsHeldFor};
 ghost use Rattle.certificate.specs.lemmas.Parts.{AllFit};
 
@@ -26,7 +26,7 @@ fn is_held_for<M: MoveSource>(
 ) -> Result<bool, MoveFault>
     requires sound { M.is_sound source.now }
     requires ascends { Ascends (lines_in list.now) }
-    ensures is { IfOk result (λ is. (is ≡ true) ↔ IsHeldFor (M.graph source.now) player (Stands list.now) at.now.items rank) }
+    ensures is { IfOk result (λ is. (is ≡ true) ↔ IsHeldFor (M.graph source.now) player (HasRankedLine list.now) at.now.items rank) }
     ensures wide { result ≡ Err MoveFault.TooWide → (rank ≢ 0) × M.is_wide source.now at.now.items }
     ensures narrow { IsOk result → rank ≢ 0 → ¬ M.is_wide source.now at.now.items }
 {
@@ -76,7 +76,7 @@ pub fn first_not_following<M: MoveSource>(
         (λ _. (line : Line) × Contains (lines_in list.now) line × ¬ Follows (M.graph source.now) manner player (lines_in list.now) line)) }
     ensures wide { result ≡ Err MoveFault.TooWide → (line : Line) × Contains (lines_in list.now) line
         × (IsSearched manner line × M.is_wide source.now line.at) }
-    ensures narrow { result ≡ Ok None → IsNarrow (M.is_wide source.now) manner (lines_in list.now) }
+    ensures narrow { result ≡ Ok None → IsListNarrow (M.is_wide source.now) manner (lines_in list.now) }
 {
     for (index, ranked) in list.iter().enumerate() {
         if !follows(alloc, source, manner, player, list, ranked)? {

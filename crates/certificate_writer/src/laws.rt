@@ -1,7 +1,7 @@
 //! What holds of every certificate that was written: each is a law, which proofs cite by a call.
 ghost use Rattle.std.specs.Prelude.{◌≡◌, ◌⊎◌, ℕ, List, Option};
 ghost use Rattle.rbg_text.specs.Token.{Text};
-ghost use Rattle.certificate.specs.Answers.{IsAnswer, refusal_line};
+ghost use Rattle.certificate.specs.Answers.{IsCertificateAnswer, refusal_line};
 ghost use Rattle.certificate.specs.Claims.{IsTheGiven};
 ghost use Rattle.certificate.specs.declared.fault.CertificateFault.TheVariants.{OutOfMemory};
 ghost use Rattle.certificate_writer.specs.Written.{IsCertificateFrom};
@@ -11,6 +11,6 @@ ghost use Rattle.game_file.specs.Kept.{Kept};
 /// unless memory runs out.
 pub fn what_is_written_is_accepted()
     ensures { (number : ℕ) (bytes : List ℕ) (kept : Kept) (given : Option Text) (status : ℕ) (written : List ℕ)
-        → IsCertificateFrom number bytes kept → IsTheGiven given kept.text → IsAnswer bytes given status written
+        → IsCertificateFrom number bytes kept → IsTheGiven given kept.text → IsCertificateAnswer bytes given status written
         → (status ≡ 0) ⊎ (written ≡ refusal_line OutOfMemory) }
 {}

@@ -6,7 +6,7 @@ use Rattle.std.specs.Str.Parse.{AllDigits, IsNumeral, digits_value}
 use Rattle.std.proofs.Math.Nat.{pow-le-pow_right}
 use Rattle.std.proofs.lemmas.Bool.Decides.{eqb_tells}
 use Rattle.std.proofs.lemmas.Int.Digits.{digits_value-lt}
-use Rattle.command_line.specs.Commands.{AreWhole, WritesCount}
+use Rattle.command_line.specs.Commands.{AreWholePages, WritesCount}
 use Rattle.command_line.specs.Words.{AsksPages, HasUnit}
 
 not_empty : (ys : List ℕ) (b : ℕ) → [] ≡ ys ++ b ∷ [] → ⊥
@@ -107,7 +107,7 @@ module _ (word digits : List ℕ) (bytes : ℕ) (unit : HasUnit word digits byte
       none (digits_value 10 digits) (record { few = few; digits = numeral; number_is = refl; small = ten_digits digits few numeral.1 })
 
   -- the pages of that number
-  pub counted : (number : ℕ) (result : Option ℕ) → WritesCount digits number → MatchOption result ((n : ℕ) → ¬ AreWhole number bytes n) (AreWhole number bytes)
+  pub counted : (number : ℕ) (result : Option ℕ) → WritesCount digits number → MatchOption result ((n : ℕ) → ¬ AreWholePages number bytes n) (AreWholePages number bytes)
       → MatchOption result ((n : ℕ) → ¬ AsksPages word n) (AsksPages word)
   counted number None counts none = λ n asks.
       let same = alone asks.digits asks.bytes asks.unit asks.numeral in

@@ -21,7 +21,7 @@ pub record WritesCount (word : Text) (number : ℕ) : Type 0 where
   pub small : number < 2 ^ 64
 
 -- so many whole pages have room in this many times so many bytes
-pub record AreWhole (number bytes pages : ℕ) : Type 0 where
+pub record AreWholePages (number bytes pages : ℕ) : Type 0 where
   pub pages_are : pages ≡ number * bytes / 4096
   pub some : 1 ≤ pages
   pub most : pages ≤ 1048576

@@ -84,9 +84,9 @@ IsPosition None number = number ≡ 0
 IsPosition (Some word) number = WritesNumber word number
 
 -- a goal of so many points, or none
-abbrev pub IsGoal : Option Text → Option Goal → Type 0
-IsGoal None goal = goal ≡ None
-IsGoal (Some word) goal = (points : ℕ) × WritesNumber word points × CanBeGoal points × (points_of goal ≡ Some points)
+abbrev pub IsAskedGoal : Option Text → Option Goal → Type 0
+IsAskedGoal None goal = goal ≡ None
+IsAskedGoal (Some word) goal = (points : ℕ) × WritesNumber word points × CanBeGoal points × (points_of goal ≡ Some points)
 
 -- the words for files and numbers, and the options
 abbrev pub file_word : Rule
@@ -135,7 +135,7 @@ load = record {
   name = codes "load";
   takes = file_word ∷ game_word ∷ goal_word ∷ [];
   asks = λ found asked. (file : Owned) × (game : Owned) × (goal : Option Goal) × (asked ≡ words.Load file game goal)
-      × Is (found (codes "FILE")) file × Is (found (codes "GAME")) game × IsGoal (found (codes "goal")) goal;
+      × Is (found (codes "FILE")) file × Is (found (codes "GAME")) game × IsAskedGoal (found (codes "goal")) goal;
 }
 
 -- `session FILE [--quiet]`

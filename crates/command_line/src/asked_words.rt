@@ -4,7 +4,7 @@ ghost use Rattle.std.specs.Prelude.{string_bytes};
 ghost use Rattle.clap.specs.Words.{subcommand_rows_of};
 ghost use Rattle.rbg_game.specs.declared.goal.Goal.{Goal};
 ghost use Rattle.command_line.specs.Commands.{AsksIfAny, word_in};
-ghost use Rattle.command_line.specs.Words.{ArePagesAsked, AsksBy, AsksIn, IsGoal, IsPosition, commands};
+ghost use Rattle.command_line.specs.Words.{ArePagesAsked, AsksBy, AsksIn, IsAskedGoal, IsPosition, commands};
 ghost use Rattle.command_line.specs.Words.{actions, audit, certify, check, create, game};
 ghost use Rattle.command_line.specs.Words.{grow, load, look, migrate, moves, session};
 
@@ -217,8 +217,8 @@ fn position_in(matches: &ArgMatches<'_>) -> Option<u32>
 
 /// The goal that was given, if one was; nothing where the word for it is none.
 fn goal_in(matches: &ArgMatches<'_>) -> Option<Option<Goal>>
-    ensures { MatchOption result ((goal : Option Goal) → ¬ IsGoal (word_in matches.now (codes "goal")) goal)
-        (IsGoal (word_in matches.now (codes "goal"))) }
+    ensures { MatchOption result ((goal : Option Goal) → ¬ IsAskedGoal (word_in matches.now (codes "goal")) goal)
+        (IsAskedGoal (word_in matches.now (codes "goal"))) }
 {
     let Some(word) = word(matches, "goal") else {
         return Some(None);

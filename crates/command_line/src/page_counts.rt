@@ -1,7 +1,7 @@
 //! How many pages a word of a command line asks for.
 ghost use Rattle.std.specs.Prelude.{◌≡◌, List, ℕ, MatchOption};
 ghost use Rattle.std.specs.Str.Parse.{IsNumeral};
-ghost use Rattle.command_line.specs.Commands.{AreWhole, WritesCount};
+ghost use Rattle.command_line.specs.Commands.{AreWholePages, WritesCount};
 ghost use Rattle.command_line.specs.Words.{AsksPages, HasUnit};
 
 use page_store::MAX_PAGES;
@@ -23,7 +23,7 @@ pub fn pages_of(word: &str) -> Option<u32>
 
 /// The pages for which this many have room, of so many bytes each, 1 to 1,048,576.
 fn whole_pages(number: u64, unit: u64) -> Option<u32>
-    ensures { MatchOption result ((n : ℕ) → ¬ AreWhole number unit n) (AreWhole number unit) }
+    ensures { MatchOption result ((n : ℕ) → ¬ AreWholePages number unit n) (AreWholePages number unit) }
 {
     let pages = number.saturating_mul(unit) / PAGE;
     if (1..=u64::from(MAX_PAGES)).contains(&pages) {

@@ -1,7 +1,7 @@
 -- A commit carries a file of layout 1 into layout 3.
 use Rattle.std.proofs.Common.{◌≡◌, ◌≢◌, ◌⊎◌, inl, inr, ℕ, ◌≤◌, true, false, List, length, Option, None, Some, Result, Ok, Err, Contains, IsTrue, refl, sym, ◌∙◌, ap, subst, arith}
 use Rattle.std.specs.Prelude.{OnOk, IfOk, IfErr}
-use Rattle.sector_disk.specs.Disk.{Picture, Grew, LeavesOnly}
+use Rattle.sector_disk.specs.Disk.{Image, Grew, LeavesOnly}
 use Rattle.sector_disk.specs.lemmas.Moments.{goes_on_trans, leaves_more, leaves_then, reads_left, still_honest}
 use Rattle.page_store.specs.declared.fault.PageFault.{PageFault}
 use Rattle.page_store.specs.declared.fault.PageFault.TheVariants as page
@@ -44,10 +44,10 @@ module _ (old : Store) (game : Option Game) (whole : IsFile (file_of old game)) 
   stands : IsTrue old.disk.honest → Stands (λ p. Contains (pages_of game) p) (KeepsTable old.root (length old.marks) (kept_of game)) old
   stands honest = whole.backed.stands honest is_open
 
-  stored : IsTrue old.disk.honest → (picture : Picture) → Saved old picture → Stores (length old.marks) picture (kept_of game)
-  stored honest picture saved =
-      spells_stores old.root (length old.marks) (kept_of game) picture whole.backed.room whole.sound.few
-      (saved_spells old (stands honest) picture saved)
+  stored : IsTrue old.disk.honest → (image : Image) → Saved old image → Stores (length old.marks) image (kept_of game)
+  stored honest image saved =
+      spells_stores old.root (length old.marks) (kept_of game) image whole.backed.room whole.sound.few
+      (saved_spells old (stands honest) image saved)
 
   -- calls that commit nothing leave it
   works_leave : (new : Store) → StoreWorks old new → IsTrue old.disk.honest → LeavesTable (Stores (length old.marks)) old.disk new.disk (kept_of game)
@@ -60,7 +60,7 @@ module _ (old : Store) (game : Option Game) (whole : IsFile (file_of old game)) 
     header = works.header;
     leaves = λ honest is_open other. works_leave new works honest;
     unwritten = λ honest is_open spared. works_leave new works honest;
-    either = λ honest is_open. leaves_more (λ picture left. inl left) (works_leave new works honest);
+    either = λ honest is_open. leaves_more (λ image left. inl left) (works_leave new works honest);
   }
 
   -- a root of layout 3 is committed after such calls
@@ -76,26 +76,26 @@ module _ (old : Store) (game : Option Game) (whole : IsFile (file_of old game)) 
     same_header : SameHeader old.disk new.disk
     same_header honest = commits.header (still_honest works.goes_on honest) ∙ works.header honest
 
-    each : IsTrue old.disk.honest → (picture : Picture)
-        → Spells old.root (length old.marks) (KeepsTable old.root (length old.marks) (kept_of game)) picture
-        ⊎ Spells root (length old.marks) (KeepsTrees root (length old.marks) (kept_of game)) picture
-        → Stores (length old.marks) picture (kept_of game) ⊎ StoresTrees 3 (length old.marks) picture (kept_of game)
-    each honest picture (inl spells) = inl (spells_stores old.root (length old.marks) (kept_of game) picture whole.backed.room whole.sound.few spells)
-    each honest picture (inr spells) =
-        inr (spells_stores_trees root 3 (length old.marks) (kept_of game) picture layout says whole.backed.room whole.sound.few spells)
+    each : IsTrue old.disk.honest → (image : Image)
+        → Spells old.root (length old.marks) (KeepsTable old.root (length old.marks) (kept_of game)) image
+        ⊎ Spells root (length old.marks) (KeepsTrees root (length old.marks) (kept_of game)) image
+        → Stores (length old.marks) image (kept_of game) ⊎ StoresTrees 3 (length old.marks) image (kept_of game)
+    each honest image (inl spells) = inl (spells_stores old.root (length old.marks) (kept_of game) image whole.backed.room whole.sound.few spells)
+    each honest image (inr spells) =
+        inr (spells_stores_trees root 3 (length old.marks) (kept_of game) image layout says whole.backed.room whole.sound.few spells)
 
     either : {named : ℕ → Type 0} → IsTrue old.disk.honest → IsPrepared named (KeepsTrees root (length old.marks) (kept_of game)) mid
-        → LeavesOnly old.disk new.disk (λ picture. Stores (length old.marks) picture (kept_of game) ⊎ StoresTrees 3 (length old.marks) picture (kept_of game))
+        → LeavesOnly old.disk new.disk (λ image. Stores (length old.marks) image (kept_of game) ⊎ StoresTrees 3 (length old.marks) image (kept_of game))
     either honest prepared =
         leaves_more (each honest)
         (commit_carries root old mid new honest (whole.sound.safe honest is_open) (stands honest) works prepared commits).stop
 
     now : {named : ℕ → Type 0} → IsTrue old.disk.honest → IsPrepared named (KeepsTrees root (length old.marks) (kept_of game)) mid
         → StopLeaves new (SavedAs root mid) → LeavesNow (StoresTrees 3 (length old.marks)) new.disk (kept_of game)
-    now honest prepared after picture left =
-        spells_stores_trees root 3 (length old.marks) (kept_of game) picture layout says whole.backed.room whole.sound.few
-        (subst (λ (n : ℕ). Spells root n (KeepsTrees root (length old.marks) (kept_of game)) picture) works.same_pages
-        (saved_as_spells root mid prepared picture (after picture left)))
+    now honest prepared after image left =
+        spells_stores_trees root 3 (length old.marks) (kept_of game) image layout says whole.backed.room whole.sound.few
+        (subst (λ (n : ℕ). Spells root n (KeepsTrees root (length old.marks) (kept_of game)) image) works.same_pages
+        (saved_as_spells root mid prepared image (after image left)))
 
     refused_leaves : (fault : PageFault) → (fault ≢ page.Disk → new ≡ mid) → IsTrue old.disk.honest → of_pages fault ≢ DiskFailed
         → LeavesTable (Stores (length old.marks)) old.disk new.disk (kept_of game)
@@ -110,7 +110,7 @@ module _ (old : Store) (game : Option Game) (whole : IsFile (file_of old game)) 
         let later = still_honest works.goes_on honest in
         leaves_more (stored honest)
         (leaves_then commits.goes_on (works.leaves honest safe)
-        (leaves_more (λ picture left. saved_before works honest picture (safe_saves mid (works.safe honest safe) picture left)) (same.leaves later)))
+        (leaves_more (λ image left. saved_before works honest image (safe_saves mid (works.safe honest safe) image left)) (same.leaves later)))
 
     -- so does one in which no write failed
     unwritten_leaves : (fault : PageFault) → StoreCommitCause mid new fault → mid.closed ≡ old.closed

@@ -23,7 +23,7 @@ use Rattle.game_file.specs.Kept.{Kept}
 use Rattle.earlier_layouts.specs.Held.{KeepsGame, KeepsTable}
 use Rattle.earlier_layouts.specs.lemmas.StoredLaws.{game_rests_on_its_pages, few_edges}
 use Rattle.earlier_layouts.specs.ReadCauses.{GameReadCause}
-use Rattle.earlier_layouts.specs.lemmas.FileReads.{IsGameIn, SpellingCause, IsRead}
+use Rattle.earlier_layouts.specs.lemmas.FileReads.{IsGameIn, SpellingCause, IsReadFromPages}
 
 -- where the slot says nothing nothing is kept
 pub no_slot_keeps : (root : List ℕ) (capacity : ℕ) (bytes : ℕ → List ℕ) → capacity ≤ 1048576 → IsNoSlot root → (kept : Option Kept)
@@ -101,7 +101,7 @@ module _ (old : Store) (slot : GameSlot) (says : SaysGame old.root slot) where
 
     -- the game was read from the pages of the chain
     pub game_read : (new : Store) → ((p : ℕ) → Contains pages p → mark old.marks p ≡ Waiting) → ((p : ℕ) → Contains pages p → mark new.marks p ≡ Committed)
-        → (game : Game) → IsGameIn slot.packing slot.sizes pages content game → IsRead game.pages.items (Some (kept_in game)) old new
+        → (game : Game) → IsGameIn slot.packing slot.sizes pages content game → IsReadFromPages game.pages.items (Some (kept_in game)) old new
     unfolding keeps_read
     game_read new waited marked game is = record {
       waited = λ p here. waited p (subst (λ (ps : List ℕ). Contains ps p) is.on here);

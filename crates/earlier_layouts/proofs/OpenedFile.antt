@@ -1,6 +1,6 @@
 -- What is read of a disk is what it stores.
 use Rattle.std.proofs.Common.{◌≡◌, inl, inr, ◌≤◌, ℕ, Bool, false, true, List, Option, IsTrue, length, sym, ◌∙◌, ap, subst, arith}
-use Rattle.sector_disk.specs.Disk.{Picture, Shown, Disk, sector, LeavesOnly, MayLeave, SyncedMore, Grew}
+use Rattle.sector_disk.specs.Disk.{Image, Shown, Disk, sector, LeavesOnly, MayLeave, SyncedMore, Grew}
 use Rattle.sector_disk.specs.lemmas.Moments.{goes_on_trans, leaves_then, leaves_more, still_honest}
 use Rattle.root_pair.specs.Root.{HoldsRoot}
 use Rattle.page_store.specs.declared.fault.PageFault.{PageFault}
@@ -21,11 +21,11 @@ use Rattle.game_file.specs.State.{GoesFrom}
 use Rattle.earlier_layouts.specs.Calls.{file_of, state_of}
 
 -- what a stop leaves after a sync it could leave before
-pub left_before : {old new : Shown} → SyncedMore old new → (picture : Picture) → MayLeave new picture → MayLeave old picture
-left_before more picture left = record {
+pub left_before : {old new : Shown} → SyncedMore old new → (image : Image) → MayLeave new image → MayLeave old image
+left_before more image left = record {
   no_shorter = omega (arith, more.lasting, left.no_shorter);
-  no_longer = omega (arith, left.no_longer, ap (λ (p : Picture). length p) more.contents);
-  same = λ k synced. left.same k (more.synced k synced) ∙ ap (λ (p : Picture). sector p k) more.contents;
+  no_longer = omega (arith, left.no_longer, ap (λ (p : Image). length p) more.contents);
+  same = λ k synced. left.same k (more.synced k synced) ∙ ap (λ (p : Image). sector p k) more.contents;
 }
 
 -- a count that grew from a later one on grew
@@ -64,7 +64,7 @@ module _ (disk : Disk) (count : ℕ) (found now : Store) (at_first : IsFound dis
         holds = subst (λ (root : List ℕ). HoldsRoot root disk.now.contents) (sym read.root) (at_first.root honest);
         least = backed.room;
         room = omega (arith, capacity);
-        keeps = stands.spelled.anywhere (bytes_of disk.now.contents) (λ p here. ap (λ (picture : Picture). bytes_of picture p) (sym same));
+        keeps = stands.spelled.anywhere (bytes_of disk.now.contents) (λ p here. ap (λ (image : Image). bytes_of image p) (sym same));
       }
 
   pub opened : (game : Option Game) → IsBacked now (pages_of game) (kept_of game) → IsOpenedFile Stores disk count (state_of (file_of now game))
@@ -81,7 +81,7 @@ module _ (disk : Disk) (count : ℕ) (found now : Store) (at_first : IsFound dis
   kept_there pages kept honest stores =
       let same_root : stores.root ≡ found.root = sym stores.holds.is ∙ (at_first.root honest).is in
       let same : disk.now.contents ≡ found.disk.now.contents = sym (at_first.same honest).contents in
-      subst (λ (picture : Picture). KeepsTable found.root (length found.marks) kept (bytes_of picture)) same
+      subst (λ (image : Image). KeepsTable found.root (length found.marks) kept (bytes_of image)) same
       (subst (λ (n : ℕ). KeepsTable found.root n kept (bytes_of disk.now.contents)) (sym at_first.capacity)
       (subst (λ (root : List ℕ). KeepsTable root (capacity_of disk.now.contents) kept (bytes_of disk.now.contents)) same_root
       (keeps_in_more stores.root pages (capacity_of disk.now.contents) kept (bytes_of disk.now.contents) stores.room stores.keeps)))

@@ -15,7 +15,7 @@ use Rattle.earlier_layouts.specs.File.{IsBacked}
 use Rattle.game_file.specs.Kept.{Kept}
 use Rattle.earlier_layouts.specs.Held.{KeepsTable}
 use Rattle.page_store.specs.Pages.{AllWait}
-use Rattle.earlier_layouts.specs.lemmas.FileReads.{IsRead}
+use Rattle.earlier_layouts.specs.lemmas.FileReads.{IsReadFromPages}
 
 at_rest : (m : Mark) → (m ≡ Committed) ⊎ (m ≡ Free) → IsTrue (rests m)
 at_rest m (inl is) = subst (λ (n : Mark). IsTrue (rests n)) (sym is) refl
@@ -24,7 +24,7 @@ at_rest m (inr is) = subst (λ (n : Mark). IsTrue (rests n)) (sym is) refl
 waits_apart : (m : Mark) → m ≡ Committed → m ≡ Waiting → ⊥
 waits_apart m one other = cc
 
-module _ (old mid new : Store) (pages : List ℕ) (kept : Option Kept) (sound : IsSoundStore old) (only : OnlyMarks old mid) (read : IsRead pages kept old mid)
+module _ (old mid new : Store) (pages : List ℕ) (kept : Option Kept) (sound : IsSoundStore old) (only : OnlyMarks old mid) (read : IsReadFromPages pages kept old mid)
     (sealed : AreSealed mid.marks new.marks) (others : IsRemarked mid new) where
   long : length new.marks ≡ length old.marks
   long = sealed.same_length ∙ only.works.same_pages

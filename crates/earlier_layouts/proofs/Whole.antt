@@ -9,7 +9,7 @@ use Rattle.game_file.specs.declared.sizes.Sizes.{Sizes}
 use Rattle.game_file.specs.Bytes.{IsCell}
 use Rattle.earlier_layouts.specs.Spelled.{AreSpelled, SpellsTable}
 use Rattle.earlier_layouts.specs.lemmas.Laws.{bytes_spell_one_table}
-use Rattle.earlier_layouts.specs.lemmas.FileReads.{IsWhole, SpellingCause}
+use Rattle.earlier_layouts.specs.lemmas.FileReads.{IsSizedTable, SpellingCause}
 
 -- positions that were spelled have their length
 cells_long : (packed : ℕ) (bytes : List ℕ) (xs : List (List ℕ)) (rs : List Record) → length rs ≡ length xs → AreSpelled (IsCell packed) bytes (zip xs rs)
@@ -23,10 +23,10 @@ cells_long packed bytes (y ∷ xs) (r ∷ rs) same (one, rest, is, of, more) (su
 
 -- the bytes spell no table whose parts fit together and are counted right
 pub not_whole : (sizes : Sizes) (bytes text : List ℕ) (stored : Stored (List ℕ)) → SpellsTable sizes bytes text stored
-    → (IsWhole sizes stored → ⊥) → SpellingCause sizes bytes Damaged
+    → (IsSizedTable sizes stored → ⊥) → SpellingCause sizes bytes Damaged
 not_whole sizes bytes text stored is none = λ other table is_table counts spelled.
     let (texts, same) = bytes_spell_one_table sizes bytes other text table stored spelled is in
-    none (subst (λ (t : Stored (List ℕ)). IsWhole sizes t) same (record {
+    none (subst (λ (t : Stored (List ℕ)). IsSizedTable sizes t) same (record {
       fits = record {
         table = is_table;
         long = cells_long sizes.packed spelled.cells table.positions table.records (spelled.recorded ∙ sym spelled.known) spelled.cells_are;

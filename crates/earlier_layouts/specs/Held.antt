@@ -1,6 +1,6 @@
--- The table that a picture of the disk holds, as far as that can be told without the game's rules.
+-- The table that an image of the disk holds, as far as that can be told without the game's rules.
 use Rattle.std.specs.Prelude.{◌≡◌, ℕ, ◌≤◌, List, Option, None, Some}
-use Rattle.sector_disk.specs.Disk.{Picture}
+use Rattle.sector_disk.specs.Disk.{Image}
 use Rattle.root_pair.specs.Root.{HoldsRoot}
 use Rattle.page_store.specs.Page.{page}
 use Rattle.page_chain.specs.Chain.{IsChain}
@@ -32,15 +32,15 @@ abbrev pub KeepsTable : List ℕ → ℕ → Option Kept → (ℕ → List ℕ) 
 KeepsTable root capacity None bytes = IsEmptySlot root
 KeepsTable root capacity (Some kept) bytes = KeepsGame root capacity kept bytes
 
--- the picture is a table in this many pages, 16 or more, for which it has room: it begins as each does, its gate picks a slot, and what that
+-- the image is a table in this many pages, 16 or more, for which it has room: it begins as each does, its gate picks a slot, and what that
 -- slot and the pages named from it spell is this. A slot of this layout does not say how many pages there are
-pub record Stores (pages : ℕ) (picture : Picture) (kept : Option Kept) : Type 0 where
+pub record Stores (pages : ℕ) (image : Image) (kept : Option Kept) : Type 0 where
   pub root : List ℕ
-  pub holds : HoldsRoot root picture
+  pub holds : HoldsRoot root image
   pub least : MIN_PAGES ≤ pages
-  pub room : pages ≤ capacity_of picture
-  pub keeps : KeepsTable root pages kept (page picture)
+  pub room : pages ≤ capacity_of image
+  pub keeps : KeepsTable root pages kept (page image)
 
--- no picture holds a table of an earlier layout: this one is the first
+-- no image holds a table of an earlier layout: this one is the first
 abbrev pub IsOlder : Older
-IsOlder picture = ⊥
+IsOlder image = ⊥

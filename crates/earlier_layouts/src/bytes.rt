@@ -3,7 +3,7 @@ ghost use Rattle.std.specs.Prelude.{◌≡◌, ◌↔◌, ◌≤◌, ◌^◌, tr
 ghost use Rattle.table.specs.InMemory.{stored_in};
 ghost use Rattle.game_file.specs.Numbers.{AreWithinLimits};
 ghost use Rattle.earlier_layouts.specs.Length.{bytes_in};
-ghost use Rattle.earlier_layouts.specs.lemmas.FileReads.{IsWhole, IsTableOf, IsGameIn, SpellingCause};
+ghost use Rattle.earlier_layouts.specs.lemmas.FileReads.{IsSizedTable, IsTableOf, IsGameIn, SpellingCause};
 
 use crate::game::Game;
 use crate::image::{BytesFault, read_table};
@@ -70,7 +70,7 @@ fn table_of(alloc: Global, sizes: &Sizes, bytes: &[u8]) -> Result<MemTable, Page
 
 /// Whether the table's parts fit together and are counted right.
 fn is_whole(alloc: Global, sizes: &Sizes, table: &MemTable) -> Result<bool, PageFault>
-    ensures whole { IfOk result (λ whole. (whole ≡ true) ↔ IsWhole sizes.now (stored_in table.now)) }
+    ensures whole { IfOk result (λ whole. (whole ≡ true) ↔ IsSizedTable sizes.now (stored_in table.now)) }
     ensures cause { IfErr result (λ fault. fault ≡ PageFault.OutOfMemory) }
 {
     let fits = table

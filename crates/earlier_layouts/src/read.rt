@@ -6,7 +6,7 @@ ghost use Rattle.earlier_layouts.specs.Slot.{commits_in, Says, SaysGame};
 ghost use Rattle.earlier_layouts.specs.File.{IsGame, AreGames, IsBacked, kept_of, pages_of};
 ghost use Rattle.earlier_layouts.specs.ReadCauses.{GameReadCause};
 ghost use Rattle.page_store.specs.Pages.{AllWait};
-ghost use Rattle.earlier_layouts.specs.lemmas.FileReads.{IsRead};
+ghost use Rattle.earlier_layouts.specs.lemmas.FileReads.{IsReadFromPages};
 
 use crate::bytes::{game_of, length_of};
 use crate::game::{Game, Opened};
@@ -47,7 +47,7 @@ fn read_named<P: Pages>(
     requires { Says (P.store store.old).root slot }
     ensures games { IfOk result AreGames }
     ensures only { OnlyMarks (P.store store.old) (P.store store.new) }
-    ensures read { IfOk result (λ game. IsRead (pages_of game) (kept_of game) (P.store store.old) (P.store store.new)) }
+    ensures read { IfOk result (λ game. IsReadFromPages (pages_of game) (kept_of game) (P.store store.old) (P.store store.new)) }
     ensures cause { IfErr result (GameReadCause (P.store store.old) (P.store store.new)) }
 {
     match slot {
@@ -61,7 +61,7 @@ fn read_game<P: Pages>(alloc: Global, store: &mut P, slot: &GameSlot) -> Result<
     requires { SaysGame (P.store store.old).root slot.now }
     ensures game { IfOk result IsGame }
     ensures only { OnlyMarks (P.store store.old) (P.store store.new) }
-    ensures read { IfOk result (λ game. IsRead (pages_of (Some game)) (kept_of (Some game)) (P.store store.old) (P.store store.new)) }
+    ensures read { IfOk result (λ game. IsReadFromPages (pages_of (Some game)) (kept_of (Some game)) (P.store store.old) (P.store store.new)) }
     ensures cause { IfErr result (GameReadCause (P.store store.old) (P.store store.new)) }
 {
     let sizes = slot.sizes;

@@ -5,7 +5,7 @@ ghost use Rattle.std.specs.List.{flat_map};
 ghost use Rattle.rbg_game.specs.Meaning.{game_of};
 ghost use Rattle.legal_moves.specs.Moves.{start_of};
 ghost use Rattle.session_lines.specs.Answers.{IsMovesAnswer, TellsMoves, TellsMovesAt};
-ghost use Rattle.session_lines.specs.Parts.{IsWritten};
+ghost use Rattle.session_lines.specs.Parts.{IsTextWritten};
 ghost use Rattle.session_lines.specs.Counted.{IsStatusLine};
 ghost use Rattle.session_lines.specs.Moments.{noted_in};
 ghost use Rattle.session_lines.specs.Replies.{row_line, value_text};
@@ -84,7 +84,7 @@ pub fn value_line(alloc: Global, game: &Game, value: Value) -> Result<Vec<u8>, A
 
 /// The clause of `moves_to`.
 pub fn moves_to<W: Write>(alloc: Global, text: &[u8], out: &mut W) -> u8
-    ensures { IsWritten (IsMovesAnswer text.now (λ game. TellsMoves game (start_of game))) (W.contents out.old) (W.contents out.new)
+    ensures { IsTextWritten (IsMovesAnswer text.now (λ game. TellsMoves game (start_of game))) (W.contents out.old) (W.contents out.new)
         result }
 {
     moves::moves_to(alloc, text, out)
@@ -92,7 +92,7 @@ pub fn moves_to<W: Write>(alloc: Global, text: &[u8], out: &mut W) -> u8
 
 /// The clause of `moves_at`.
 pub fn moves_at<W: Write>(alloc: Global, text: &[u8], position: &[u8], out: &mut W) -> u8
-    ensures { IsWritten (IsMovesAnswer text.now (λ game. TellsMovesAt game position.now)) (W.contents out.old) (W.contents out.new)
+    ensures { IsTextWritten (IsMovesAnswer text.now (λ game. TellsMovesAt game position.now)) (W.contents out.old) (W.contents out.new)
         result }
 {
     moves::moves_at(alloc, text, position, out)

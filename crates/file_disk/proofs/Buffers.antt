@@ -6,13 +6,13 @@ use Rattle.std.specs.List.{AllByRecursion}
 use Rattle.std.proofs.lemmas.Bool.{cases_lt, lt-ltb, le-ltb, le-leb}
 use Rattle.std.proofs.lemmas.List.{drop-append-le, take-append-le, take_all}
 use Rattle.std.proofs.lemmas.List.Elements.{recursion_from_All}
-use Rattle.sector_disk.specs.Disk.{Picture, Shown, IsNoMore, MayLeave}
+use Rattle.sector_disk.specs.Disk.{Image, Shown, IsNoMore, MayLeave}
 use Rattle.file_disk.specs.declared.file_event.FileEvent.{FileEvent}
 use Rattle.file_disk.specs.declared.file_event.FileEvent.TheVariants.{Wrote, Synced, Resized}
 use Rattle.file_disk.specs.declared.waiting_writes.WaitingWrites.{WaitingWrites}
-use Rattle.file_disk.specs.Buffers.{Buffers, Ends, waits, is_missing, is_calm, buffered_now}
+use Rattle.file_disk.specs.Buffers.{Buffers, HasNoRoomBehind, waits, is_missing, is_calm, buffered_now}
 use Rattle.file_disk.specs.Bytes.{sector_of}
-use Rattle.file_disk.specs.Events.{Happened, had_first, Adds, IsLengthening, HasSectors, Lengthens, LengthensOnly}
+use Rattle.file_disk.specs.Events.{Happened, had_first, Adds, IsLengthening, EndsAtSector, Lengthens, LengthensOnly}
 use Rattle.file_disk.specs.Past.{Standing, found, touches, stands_by, stands_after, stands, file_shown, shown_then}
 use Rattle.file_disk.specs.Shown.{shown, Waits}
 use Rattle.file_disk.specs.Touched.{IsWriteOf, WritesWaiting, WritesOnly}
@@ -152,9 +152,9 @@ module _ (waiting : WaitingWrites) (content : List ℕ) where
   writes_show (x ∷ more) (suc j) now each last = writes_show more j now each.1 last
 
 -- so what a stop leaves in the course of such writes it may leave before them
-pub writes_between : (old new : Buffers) → Ends old → WritesOnly old.waiting old.happened new.happened old.content new.content
+pub writes_between : (old new : Buffers) → HasNoRoomBehind old → WritesOnly old.waiting old.happened new.happened old.content new.content
     → (k : ℕ) → length old.happened ≤ k → IsNoMore (shown_then new.happened new.content k) (buffered_now old)
-writes_between old new ends writes k le picture left =
+writes_between old new ends writes k le image left =
     let adds = writes.adds in
     let each = recursion_from_All (WritesWaiting old.waiting old.content) adds.more adds.each in
     let (j, at, same) = then_shown old new adds.more adds.added adds.begins k le in
@@ -168,7 +168,7 @@ writes_between old new ends writes k le picture left =
       writes_calm old.waiting old.content adds.more j (stands old.happened old.content) each s is.0 ∙ is.2,
       omega (arith, is.1 lt, shows.same_length),
       sym (unwaited old (had_first (drop j adds.more) new.content) s is.0) ∙ shows.shown s ∙ unwaited old old.content s is.0,
-    )) picture (subst (λ (s : Shown). MayLeave s picture) same left)
+    )) image (subst (λ (s : Shown). MayLeave s image) same left)
 
 -- a sector of the buffers that a stop leaves
 pub calm_so : (b : Buffers) (k : ℕ) → slot_of b.waiting.pages.items b.waiting.count k ≡ None → (k < b.sectors → 512 * (k + 1) ≤ length b.content)
@@ -236,24 +236,24 @@ module _ (from to : ℕ) (content : List ℕ) where
       omega (arith, one_more from to standing x.event x.had each.0.event, lengthens_last more j (stands_by standing x.event x.had) each.1)
 
 -- what a stop leaves while it is made longer it may leave before that, or behind
-pub lengthens_between : (old new : Buffers) (to : ℕ) → Ends old → Ends new
+pub lengthens_between : (old new : Buffers) (to : ℕ) → HasNoRoomBehind old → HasNoRoomBehind new
     → LengthensOnly old.sectors to old.happened new.happened old.content new.content
-    → (k : ℕ) → length old.happened ≤ k → k ≤ length new.happened → (picture : Picture) → MayLeave (shown_then new.happened new.content k) picture
-    → MayLeave (buffered_now old) picture ⊎ MayLeave (buffered_now new) picture
-lengthens_between old new to ends ends_new lengthens k le most picture left = elim (cases_lt k (length new.happened)) [
+    → (k : ℕ) → length old.happened ≤ k → k ≤ length new.happened → (image : Image) → MayLeave (shown_then new.happened new.content k) image
+    → MayLeave (buffered_now old) image ⊎ MayLeave (buffered_now new) image
+lengthens_between old new to ends ends_new lengthens k le most image left = elim (cases_lt k (length new.happened)) [
   | inl before ↦ inl (at before)
   | inr last ↦ let is : k ≡ length new.happened = omega arith in
-      inr (now_allowed new ends_new picture (subst (λ (n : ℕ). MayLeave (shown_then new.happened new.content n) picture) is left))
+      inr (now_allowed new ends_new image (subst (λ (n : ℕ). MayLeave (shown_then new.happened new.content n) image) is left))
 ]
   where
     -- before one of them the sectors were those
     had_then : (more : List Happened) (j : ℕ) → j < length more → AllByRecursion (Lengthens old.sectors to old.content) more
-        → HasSectors old.sectors old.content (had_first (drop j more) new.content)
+        → EndsAtSector old.sectors old.content (had_first (drop j more) new.content)
     had_then [] j lt each = absurd (omega arith)
     had_then (x ∷ more) zero lt each = each.0.had
     had_then (x ∷ more) (suc j) lt each = had_then more j (omega arith) each.1
 
-    at : k < length new.happened → MayLeave (buffered_now old) picture
+    at : k < length new.happened → MayLeave (buffered_now old) image
     at before =
         let adds = lengthens.adds in
         let each = recursion_from_All (Lengthens old.sectors to old.content) adds.more adds.each in
@@ -269,4 +269,4 @@ lengthens_between old new to ends ends_new lengthens k le most picture left = el
           lengthens_calm old.sectors to old.content adds.more j (stands old.happened old.content) each s lt ∙ is.2,
           omega (arith, has.there, lt),
           has.same s lt,
-        )) picture (subst (λ (s : Shown). MayLeave s picture) same left)
+        )) image (subst (λ (s : Shown). MayLeave s image) same left)

@@ -7,42 +7,42 @@ use Rattle.std.proofs.lemmas.Bool.{cases_lt}
 use Rattle.std.specs.List.{AllByRecursion}
 use Rattle.std.proofs.lemmas.List.{length-replicate, take_all}
 use Rattle.std.proofs.lemmas.List.Elements.{recursion_from_All}
-use Rattle.sector_disk.specs.Disk.{Picture, sector, size, Shown, Disk, MayLeave, GoesOn, Steps, Extends, IsCounted, Keeps, SyncedMore, AllSynced, IsLonger, AreZeros}
+use Rattle.sector_disk.specs.Disk.{Image, sector, size, Shown, Disk, MayLeave, GoesOn, Steps, Extends, IsCounted, Keeps, SyncedMore, AllSynced, IsLonger, AreZeros}
 use Rattle.sector_disk.specs.Unknown.{unknown_disk}
 use Rattle.sector_disk.specs.lemmas.Moments.{one_moment, steps_failed, extends_failed}
 use Rattle.sector_disk.specs.lemmas.Unknown.{unknown_goes_on, unknown_extends}
 use Rattle.file_disk.specs.declared.waiting_writes.WaitingWrites.{WaitingWrites}
 use Rattle.file_disk.specs.Buffered.{honest_disk, buffered_disk}
-use Rattle.file_disk.specs.Buffers.{Buffers, Ends, is_calm, buffered_now}
+use Rattle.file_disk.specs.Buffers.{Buffers, HasNoRoomBehind, is_calm, buffered_now}
 use Rattle.file_disk.specs.declared.file_event.FileEvent.TheVariants.{Synced}
 use Rattle.file_disk.specs.Events.{Happened, had_first, Lengthens, LengthensOnly}
-use Rattle.file_disk.specs.Past.{pictured, Standing, stands, stands_after, shown_then}
+use Rattle.file_disk.specs.Past.{image_of, Standing, stands, stands_after, shown_then}
 use Rattle.file_disk.specs.Shown.{shown, Waits}
 use Rattle.file_disk.specs.Touched.{WritesOnly, WritesAndSyncs}
 use Rattle.file_disk.specs.WaitingSectors.{slot_of}
-use Rattle.file_disk.specs.lemmas.Narrow.{length-pictured, sector-pictured, past-pictured, calm_is, now_allowed}
+use Rattle.file_disk.specs.lemmas.Narrow.{length-image_of, sector-image_of, past-image_of, calm_is, now_allowed}
 use Rattle.file_disk.proofs.Buffers.{past_kept, stands_on, calm_so, writes_between, writes_still, writes_lasting}
 use Rattle.file_disk.proofs.Buffers.{lengthens_between, lengthens_calm, lengthens_last}
 use Rattle.file_disk.proofs.Events.{writes_none}
 
 -- ---- over any file
 
-pub size_is : (honest : Bool) (b : Buffers) (ends : IsTrue honest → Ends b) (failed : ℕ) → size (buffered_disk honest b ends failed) ≡ b.sectors
+pub size_is : (honest : Bool) (b : Buffers) (ends : IsTrue honest → HasNoRoomBehind b) (failed : ℕ) → size (buffered_disk honest b ends failed) ≡ b.sectors
 unfolding buffered_disk
-size_is true b ends failed = length-pictured (shown b.waiting b.content) b.sectors
+size_is true b ends failed = length-image_of (shown b.waiting b.content) b.sectors
 size_is false b ends failed = length-replicate b.sectors []
 
-pub failed_is : (honest : Bool) (b : Buffers) (ends : IsTrue honest → Ends b) (failed : ℕ) → (buffered_disk honest b ends failed).failed_writes ≡ failed
+pub failed_is : (honest : Bool) (b : Buffers) (ends : IsTrue honest → HasNoRoomBehind b) (failed : ℕ) → (buffered_disk honest b ends failed).failed_writes ≡ failed
 unfolding buffered_disk
 failed_is true b ends failed = refl
 failed_is false b ends failed = refl
 
-pub honest_is : (honest : Bool) (b : Buffers) (ends : IsTrue honest → Ends b) (failed : ℕ) → (buffered_disk honest b ends failed).honest ≡ honest
+pub honest_is : (honest : Bool) (b : Buffers) (ends : IsTrue honest → HasNoRoomBehind b) (failed : ℕ) → (buffered_disk honest b ends failed).honest ≡ honest
 unfolding buffered_disk
 honest_is true b ends failed = refl
 honest_is false b ends failed = refl
 
-pub now_is : (honest : Bool) (b : Buffers) (ends : IsTrue honest → Ends b) (failed : ℕ) → IsTrue honest
+pub now_is : (honest : Bool) (b : Buffers) (ends : IsTrue honest → HasNoRoomBehind b) (failed : ℕ) → IsTrue honest
     → (buffered_disk honest b ends failed).now ≡ buffered_now b
 unfolding buffered_disk
 now_is true b ends failed is = refl
@@ -56,7 +56,7 @@ unknown_steps old new same = subst (λ (n : ℕ). Steps (unknown_disk old) (unkn
 })
 
 -- a step over an honest file is one over any
-pub steps_over : (was is : Bool) → is ≡ was → (old new : Buffers) (ends : IsTrue was → Ends old) (ends_new : IsTrue is → Ends new) (m n : ℕ)
+pub steps_over : (was is : Bool) → is ≡ was → (old new : Buffers) (ends : IsTrue was → HasNoRoomBehind old) (ends_new : IsTrue is → HasNoRoomBehind new) (m n : ℕ)
     → new.sectors ≡ old.sectors → m ≤ n
     → ((a : IsTrue was) (b : IsTrue is) → Steps (honest_disk old (ends a)) (honest_disk new (ends_new b)))
     → Steps (buffered_disk was old ends m) (buffered_disk is new ends_new n)
@@ -67,7 +67,7 @@ steps_over false true same old new ends ends_new m n size_same le steps = absurd
 steps_over false false same old new ends ends_new m n size_same le steps =
     steps_failed m n (unknown_steps old.sectors new.sectors size_same) le
 
-pub extends_over : (was is : Bool) → is ≡ was → (old new : Buffers) (ends : IsTrue was → Ends old) (ends_new : IsTrue is → Ends new) (m n most : ℕ)
+pub extends_over : (was is : Bool) → is ≡ was → (old new : Buffers) (ends : IsTrue was → HasNoRoomBehind old) (ends_new : IsTrue is → HasNoRoomBehind new) (m n most : ℕ)
     → old.sectors ≤ new.sectors → new.sectors ≤ most → m ≤ n
     → ((a : IsTrue was) (b : IsTrue is) → Extends most (honest_disk old (ends a)) (honest_disk new (ends_new b)))
     → Extends most (buffered_disk was old ends m) (buffered_disk is new ends_new n)
@@ -80,7 +80,7 @@ extends_over false false same old new ends ends_new m n most long within le exte
 
 -- ---- over an honest one
 
-goes_on : (old new : Buffers) (ends : Ends old) (ends_new : Ends new) (more : List Happened) → new.happened ≡ old.happened ++ more
+goes_on : (old new : Buffers) (ends : HasNoRoomBehind old) (ends_new : HasNoRoomBehind new) (more : List Happened) → new.happened ≡ old.happened ++ more
     → had_first more new.content ≡ old.content → GoesOn (honest_disk old ends) (honest_disk new ends_new)
 goes_on old new ends ends_new more added begins = record {
   later = omega (arith, ap (λ (h : List Happened). length h) added, length-append old.happened more);
@@ -90,36 +90,36 @@ goes_on old new ends ends_new more added begins = record {
 }
 
 same_size : (old new : Buffers) → new.sectors ≡ old.sectors
-    → length (pictured (shown new.waiting new.content) new.sectors) ≡ length (pictured (shown old.waiting old.content) old.sectors)
+    → length (image_of (shown new.waiting new.content) new.sectors) ≡ length (image_of (shown old.waiting old.content) old.sectors)
 same_size old new same =
-    length-pictured (shown new.waiting new.content) new.sectors ∙ same ∙ sym (length-pictured (shown old.waiting old.content) old.sectors)
+    length-image_of (shown new.waiting new.content) new.sectors ∙ same ∙ sym (length-image_of (shown old.waiting old.content) old.sectors)
 
 -- what waits is written: a moment passes with each write
-pub write_steps : (old new : Buffers) (ends : Ends old) (ends_new : Ends new) → new.sectors ≡ old.sectors
+pub write_steps : (old new : Buffers) (ends : HasNoRoomBehind old) (ends_new : HasNoRoomBehind new) → new.sectors ≡ old.sectors
     → WritesOnly old.waiting old.happened new.happened old.content new.content → Steps (honest_disk old ends) (honest_disk new ends_new)
 write_steps old new ends ends_new same writes = record {
   goes_on = goes_on old new ends ends_new writes.adds.more writes.adds.added writes.adds.begins;
-  moments = λ k picture from to left. inl (writes_between old new ends writes k from picture left);
+  moments = λ k image from to left. inl (writes_between old new ends writes k from image left);
   same_size = same_size old new same;
 }
 
 -- nothing happens to the file
-pub idle_steps : (old new : Buffers) (ends : Ends old) (ends_new : Ends new) → new.sectors ≡ old.sectors → new.happened ≡ old.happened
+pub idle_steps : (old new : Buffers) (ends : HasNoRoomBehind old) (ends_new : HasNoRoomBehind new) → new.sectors ≡ old.sectors → new.happened ≡ old.happened
     → new.content ≡ old.content → Steps (honest_disk old ends) (honest_disk new ends_new)
 idle_steps old new ends ends_new same none content =
     write_steps old new ends ends_new same (writes_none old.waiting none content)
 
 -- and then it is synced
-pub sync_steps : (old new : Buffers) (ends : Ends old) (ends_new : Ends new) → new.sectors ≡ old.sectors
+pub sync_steps : (old new : Buffers) (ends : HasNoRoomBehind old) (ends_new : HasNoRoomBehind new) → new.sectors ≡ old.sectors
     → WritesAndSyncs old.waiting old.happened new.happened old.content new.content → Steps (honest_disk old ends) (honest_disk new ends_new)
 sync_steps old new ends ends_new same syncs = record {
   goes_on = goes_on old new ends ends_new (syncs.written.adds.more ++ last ∷ []) added
       (begins syncs.written.adds.more syncs.written.adds.begins);
-  moments = λ k picture from to left. elim (cases_lt k (length new.happened)) [
-    | inl before ↦ inl (writes_between old mid ends syncs.written k from picture
-        (subst (λ (s : Shown). MayLeave s picture) (past_kept mid new (last ∷ []) syncs.synced refl k (omega (arith, before, long))) left))
+  moments = λ k image from to left. elim (cases_lt k (length new.happened)) [
+    | inl before ↦ inl (writes_between old mid ends syncs.written k from image
+        (subst (λ (s : Shown). MayLeave s image) (past_kept mid new (last ∷ []) syncs.synced refl k (omega (arith, before, long))) left))
     | inr behind ↦ let is : k ≡ length new.happened = omega (arith, behind, to) in
-        inr (now_allowed new ends_new picture (subst (λ (n : ℕ). MayLeave (shown_then new.happened new.content n) picture) is left))
+        inr (now_allowed new ends_new image (subst (λ (n : ℕ). MayLeave (shown_then new.happened new.content n) image) is left))
   ];
   same_size = same_size old new same;
 }
@@ -142,37 +142,37 @@ sync_steps old new ends ends_new same syncs = record {
     begins [] is = is
     begins (x ∷ more) is = is
 
-pub lengthen_extends : (old new : Buffers) (ends : Ends old) (ends_new : Ends new) (most : ℕ) → old.sectors ≤ new.sectors → new.sectors ≤ most
+pub lengthen_extends : (old new : Buffers) (ends : HasNoRoomBehind old) (ends_new : HasNoRoomBehind new) (most : ℕ) → old.sectors ≤ new.sectors → new.sectors ≤ most
     → LengthensOnly old.sectors most old.happened new.happened old.content new.content
     → Extends most (honest_disk old ends) (honest_disk new ends_new)
 lengthen_extends old new ends ends_new most long within lengthens = record {
   goes_on = goes_on old new ends ends_new lengthens.adds.more lengthens.adds.added lengthens.adds.begins;
-  moments = λ honest k picture from to left. lengthens_between old new most ends ends_new lengthens k from to picture left;
+  moments = λ honest k image from to left. lengthens_between old new most ends ends_new lengthens k from to image left;
   no_shorter = omega (arith, long, sizes old, sizes new);
   no_longer = omega (arith, within, sizes new);
 }
   where
-    sizes : (b : Buffers) → length (pictured (shown b.waiting b.content) b.sectors) ≡ b.sectors
-    sizes b = length-pictured (shown b.waiting b.content) b.sectors
+    sizes : (b : Buffers) → length (image_of (shown b.waiting b.content) b.sectors) ≡ b.sectors
+    sizes b = length-image_of (shown b.waiting b.content) b.sectors
 
 -- ---- what is shown
 
 -- the same, where each sector is shown so
-same-pictured : (f g : ℕ → List ℕ) (sectors : ℕ) → ((k : ℕ) → f k ≡ g k) → pictured f sectors ≡ pictured g sectors
-unfolding pictured
-same-pictured f g zero same = refl
-same-pictured f g (suc n) same = λ i. same-pictured f g n same i ++ same n i ∷ []
+same-image_of : (f g : ℕ → List ℕ) (sectors : ℕ) → ((k : ℕ) → f k ≡ g k) → image_of f sectors ≡ image_of g sectors
+unfolding image_of
+same-image_of f g zero same = refl
+same-image_of f g (suc n) same = λ i. same-image_of f g n same i ++ same n i ∷ []
 
 -- at one place
 shown_at : (old new : Buffers) (k : ℕ) → new.sectors ≡ old.sectors → shown new.waiting new.content k ≡ shown old.waiting old.content k
     → sector (buffered_now new).contents k ≡ sector (buffered_now old).contents k
 shown_at old new k sectors same = elim (cases_lt k old.sectors) [
   | inl lt ↦
-      sector-pictured (shown new.waiting new.content) new.sectors k (omega (arith, lt, sectors)) ∙ same
-      ∙ sym (sector-pictured (shown old.waiting old.content) old.sectors k lt)
+      sector-image_of (shown new.waiting new.content) new.sectors k (omega (arith, lt, sectors)) ∙ same
+      ∙ sym (sector-image_of (shown old.waiting old.content) old.sectors k lt)
   | inr le ↦
-      past-pictured (shown new.waiting new.content) new.sectors k (omega (arith, le, sectors))
-      ∙ sym (past-pictured (shown old.waiting old.content) old.sectors k le)
+      past-image_of (shown new.waiting new.content) new.sectors k (omega (arith, le, sectors))
+      ∙ sym (past-image_of (shown old.waiting old.content) old.sectors k le)
 ]
 
 -- a sector that did not wait and does not wait
@@ -221,8 +221,8 @@ pub tried_keeps : (old new : Buffers) → new.sectors ≡ old.sectors
     → ((k : ℕ) → shown new.waiting new.content k ≡ shown old.waiting old.content k)
     → ((k : ℕ) → Waits new.waiting k → Waits old.waiting k) → SyncedMore (buffered_now old) (buffered_now new)
 tried_keeps old new sectors writes same only = record {
-  contents = ap (pictured (shown new.waiting new.content)) sectors
-      ∙ same-pictured (shown new.waiting new.content) (shown old.waiting old.content) old.sectors same;
+  contents = ap (image_of (shown new.waiting new.content)) sectors
+      ∙ same-image_of (shown new.waiting new.content) (shown old.waiting old.content) old.sectors same;
   synced = λ k calm. still_calm old new sectors writes k (only k) calm;
   lasting = same_lasting old new sectors writes;
 }
@@ -243,7 +243,7 @@ sync_all old new syncs none long = record {
     arith,
     long,
     ap (λ (s : Standing). s.lasting) (sync_stands old new syncs),
-    length-pictured (shown new.waiting new.content) new.sectors,
+    length-image_of (shown new.waiting new.content) new.sectors,
   );
 }
 
@@ -251,14 +251,14 @@ pub sync_more : (old new : Buffers) → new.sectors ≡ old.sectors → WritesAn
     → new.waiting.count ≡ 0 → 512 * new.sectors ≤ length new.content
     → ((k : ℕ) → shown new.waiting new.content k ≡ shown old.waiting old.content k) → SyncedMore (buffered_now old) (buffered_now new)
 sync_more old new sectors syncs none long same = record {
-  contents = ap (pictured (shown new.waiting new.content)) sectors
-      ∙ same-pictured (shown new.waiting new.content) (shown old.waiting old.content) old.sectors same;
+  contents = ap (image_of (shown new.waiting new.content)) sectors
+      ∙ same-image_of (shown new.waiting new.content) (shown old.waiting old.content) old.sectors same;
   synced = λ k calm. (sync_all old new syncs none long).synced k;
   lasting = omega (
     arith,
     sectors,
     (sync_all old new syncs none long).lasting,
-    length-pictured (shown new.waiting new.content) new.sectors,
+    length-image_of (shown new.waiting new.content) new.sectors,
   );
 }
 
@@ -271,14 +271,14 @@ lengthen_keeps old new most long waiting lengthens kept = record {
   no_shorter = omega (arith, long, sizes old, sizes new);
   contents = λ k lt.
       let here : k < old.sectors = omega (arith, lt, sizes old) in
-      sector-pictured (shown new.waiting new.content) new.sectors k (omega (arith, here, long)) ∙ kept k here
-      ∙ sym (sector-pictured (shown old.waiting old.content) old.sectors k here);
+      sector-image_of (shown new.waiting new.content) new.sectors k (omega (arith, here, long)) ∙ kept k here
+      ∙ sym (sector-image_of (shown old.waiting old.content) old.sectors k here);
   synced = λ k lt calm. synced k (omega (arith, lt, sizes old)) calm;
   lasting = omega (arith, long, ap (λ (s : Standing). s.lasting / 512) on, lasts);
 }
   where
-    sizes : (b : Buffers) → length (pictured (shown b.waiting b.content) b.sectors) ≡ b.sectors
-    sizes b = length-pictured (shown b.waiting b.content) b.sectors
+    sizes : (b : Buffers) → length (image_of (shown b.waiting b.content) b.sectors) ≡ b.sectors
+    sizes b = length-image_of (shown b.waiting b.content) b.sectors
 
     more : List Happened
     more = lengthens.adds.more
@@ -306,30 +306,30 @@ lengthen_keeps old new most long waiting lengthens kept = record {
 -- and has zeros behind it
 pub lengthen_zeros : (old new : Buffers) → ((k : ℕ) → old.sectors ≤ k → k < new.sectors → shown new.waiting new.content k ≡ replicate 512 0)
     → AreZeros old.sectors new.sectors (buffered_now new).contents
-lengthen_zeros old new zeros k from to = sector-pictured (shown new.waiting new.content) new.sectors k to ∙ zeros k from to
+lengthen_zeros old new zeros k from to = sector-image_of (shown new.waiting new.content) new.sectors k to ∙ zeros k from to
 
 -- a sector is shown
 pub shows_sector : (b : Buffers) (at : ℕ) → at < b.sectors → sector (buffered_now b).contents at ≡ shown b.waiting b.content at
-shows_sector b at lt = sector-pictured (shown b.waiting b.content) b.sectors at lt
+shows_sector b at lt = sector-image_of (shown b.waiting b.content) b.sectors at lt
 
 -- ---- from what is shown of an honest file to any
 
 -- the disk is honest where the file is
-pub word : (honest : Bool) (b : Buffers) (ends : IsTrue honest → Ends b) (failed : ℕ) → IsTrue (buffered_disk honest b ends failed).honest → IsTrue honest
+pub word : (honest : Bool) (b : Buffers) (ends : IsTrue honest → HasNoRoomBehind b) (failed : ℕ) → IsTrue (buffered_disk honest b ends failed).honest → IsTrue honest
 word honest b ends failed said = sym (honest_is honest b ends failed) ∙ said
 
-pub below : (honest : Bool) (b : Buffers) (ends : IsTrue honest → Ends b) (failed at : ℕ) → at < size (buffered_disk honest b ends failed) → at < b.sectors
+pub below : (honest : Bool) (b : Buffers) (ends : IsTrue honest → HasNoRoomBehind b) (failed at : ℕ) → at < size (buffered_disk honest b ends failed) → at < b.sectors
 below honest b ends failed at lt = omega (arith, lt, size_is honest b ends failed)
 
-pub above : (honest : Bool) (b : Buffers) (ends : IsTrue honest → Ends b) (failed n : ℕ) → size (buffered_disk honest b ends failed) < n → b.sectors < n
+pub above : (honest : Bool) (b : Buffers) (ends : IsTrue honest → HasNoRoomBehind b) (failed n : ℕ) → size (buffered_disk honest b ends failed) < n → b.sectors < n
 above honest b ends failed n lt = omega (arith, lt, size_is honest b ends failed)
 
-pub one_now : (Such : Shown → Type 0) (honest : Bool) (b : Buffers) (ends : IsTrue honest → Ends b) (failed : ℕ) → IsTrue honest
+pub one_now : (Such : Shown → Type 0) (honest : Bool) (b : Buffers) (ends : IsTrue honest → HasNoRoomBehind b) (failed : ℕ) → IsTrue honest
     → Such (buffered_now b) → Such (buffered_disk honest b ends failed).now
 one_now Such honest b ends failed is such = subst Such (sym (now_is honest b ends failed is)) such
 
-pub both_now : (R : Shown → Shown → Type 0) (was is : Bool) → is ≡ was → (old new : Buffers) (ends : IsTrue was → Ends old)
-    (ends_new : IsTrue is → Ends new) (m n : ℕ) → IsTrue was → R (buffered_now old) (buffered_now new)
+pub both_now : (R : Shown → Shown → Type 0) (was is : Bool) → is ≡ was → (old new : Buffers) (ends : IsTrue was → HasNoRoomBehind old)
+    (ends_new : IsTrue is → HasNoRoomBehind new) (m n : ℕ) → IsTrue was → R (buffered_now old) (buffered_now new)
     → R (buffered_disk was old ends m).now (buffered_disk is new ends_new n).now
 both_now R was is same old new ends ends_new m n honest such =
     one_now (R (buffered_disk was old ends m).now) is new ends_new n (same ∙ honest)
@@ -340,23 +340,23 @@ pub now_same : (old new : Buffers) → new.waiting ≡ old.waiting → new.happe
 now_same old new waiting happened content sectors =
     λ i. buffered_now (record { waiting = waiting i; happened = happened i; content = content i; sectors = sectors i })
 
-pub sector_now : (honest : Bool) (b : Buffers) (ends : IsTrue honest → Ends b) (failed at : ℕ) → IsTrue honest → at < b.sectors
+pub sector_now : (honest : Bool) (b : Buffers) (ends : IsTrue honest → HasNoRoomBehind b) (failed at : ℕ) → IsTrue honest → at < b.sectors
     → sector (buffered_disk honest b ends failed).now.contents at ≡ shown b.waiting b.content at
 sector_now honest b ends failed at is lt =
     one_now (λ (now : Shown). sector now.contents at ≡ shown b.waiting b.content at) honest b ends failed is (shows_sector b at lt)
 
-pub spared_over : (was is : Bool) (old new : Buffers) (ends : IsTrue was → Ends old) (ends_new : IsTrue is → Ends new) (m n : ℕ) → n ≡ m
+pub spared_over : (was is : Bool) (old new : Buffers) (ends : IsTrue was → HasNoRoomBehind old) (ends_new : IsTrue is → HasNoRoomBehind new) (m n : ℕ) → n ≡ m
     → (buffered_disk is new ends_new n).failed_writes ≡ (buffered_disk was old ends m).failed_writes
 spared_over was is old new ends ends_new m n same = failed_is is new ends_new n ∙ same ∙ sym (failed_is was old ends m)
 
-pub counted_over : {T E : Type 0} (was is : Bool) (old new : Buffers) (ends : IsTrue was → Ends old) (ends_new : IsTrue is → Ends new) (m n : ℕ)
+pub counted_over : {T E : Type 0} (was is : Bool) (old new : Buffers) (ends : IsTrue was → HasNoRoomBehind old) (ends_new : IsTrue is → HasNoRoomBehind new) (m n : ℕ)
     (result : Result T E) → IsCounted m n result
     → IsCounted (buffered_disk was old ends m).failed_writes (buffered_disk is new ends_new n).failed_writes result
 counted_over was is old new ends ends_new m n result counted =
     subst (λ (a : ℕ). IsCounted a (buffered_disk is new ends_new n).failed_writes result) (sym (failed_is was old ends m))
     (subst (λ (b : ℕ). IsCounted m b result) (sym (failed_is is new ends_new n)) counted)
 
-pub zeros_over : (was is : Bool) → is ≡ was → (old new : Buffers) (ends : IsTrue was → Ends old) (ends_new : IsTrue is → Ends new) (m n most : ℕ)
+pub zeros_over : (was is : Bool) → is ≡ was → (old new : Buffers) (ends : IsTrue was → HasNoRoomBehind old) (ends_new : IsTrue is → HasNoRoomBehind new) (m n most : ℕ)
     → IsTrue was → new.sectors ≡ most
     → ((k : ℕ) → old.sectors ≤ k → k < most → shown new.waiting new.content k ≡ replicate 512 0)
     → AreZeros (size (buffered_disk was old ends m)) most (buffered_disk is new ends_new n).now.contents

@@ -8,7 +8,7 @@ use Rattle.file_disk.specs.declared.file_event.FileEvent.{FileEvent}
 use Rattle.file_disk.specs.declared.file_event.FileEvent.TheVariants.{Wrote, Synced, Resized}
 use Rattle.file_disk.specs.declared.waiting_writes.WaitingWrites.{WaitingWrites}
 use Rattle.file_disk.specs.Bytes.{bytes_at, KeepsUpTo}
-use Rattle.file_disk.specs.Events.{Happened, had_first, Adds, IsNoted, IsNotedOrNothing, HasSectors, Lengthens, LengthensOnly}
+use Rattle.file_disk.specs.Events.{Happened, had_first, Adds, IsEventNoted, IsNotedOrNothing, EndsAtSector, Lengthens, LengthensOnly}
 use Rattle.file_disk.specs.Shown.{shown}
 use Rattle.file_disk.specs.Touched.{IsWriteOf, WritesWaiting, WritesOnly, WritesAndSyncs}
 use Rattle.file_disk.specs.WaitingSectors.{slot_of}
@@ -27,7 +27,7 @@ adds_same {Such = Such} {old = old} same bytes = record { more = []; added = sam
 
 -- one event came
 pub adds_one : {Such : Happened → Type 0} (event : FileEvent) {old new : List Happened} (a b : List ℕ) → Such (record { event = event; had = a })
-    → IsNoted event a old new → Adds Such old new a b
+    → IsEventNoted event a old new → Adds Such old new a b
 adds_one {Such = Such} event a b such noted = record {
   more = record { event = event; had = a } ∷ [];
   added = noted;
@@ -43,7 +43,7 @@ adds_tried event a b such (inr nothing) = adds_same nothing.0 nothing.1
 
 -- and so it is whether the call was done or not
 pub adds_done : {Such : Happened → Type 0} (event : FileEvent) {old new : List Happened} (a b : List ℕ) (done : Bool)
-    → Such (record { event = event; had = a }) → OnTrue done (IsNoted event a old new) → OnFalse done (IsNotedOrNothing event old new a b)
+    → Such (record { event = event; had = a }) → OnTrue done (IsEventNoted event a old new) → OnFalse done (IsNotedOrNothing event old new a b)
     → Adds Such old new a b
 adds_done event a b true such noted tried = adds_one event a b such noted
 adds_done event a b false such noted tried = adds_tried event a b such tried
@@ -78,7 +78,7 @@ writes_none waiting same bytes = record { adds = adds_same same bytes; shows = s
 
 -- one write was tried
 pub writes_tried : (waiting : WaitingWrites) (event : FileEvent) {old new : List Happened} (a b : List ℕ) (done : Bool) → IsWriteOf waiting event
-    → OnTrue done (IsNoted event a old new) → OnFalse done (IsNotedOrNothing event old new a b)
+    → OnTrue done (IsEventNoted event a old new) → OnFalse done (IsNotedOrNothing event old new a b)
     → ShowsSame waiting.pages.items waiting.count waiting.bytes.items a b → WritesOnly waiting old new a b
 writes_tried waiting event a b done is noted tried shows = record {
   adds = adds_done event a b done (record { event = is; had = shows_none waiting refl }) noted tried;
@@ -94,16 +94,16 @@ writes_then {waiting = waiting} first second = record {
 }
 
 -- and then it was synced
-pub syncs_then : {waiting : WaitingWrites} {old mid new : List Happened} {a b c : List ℕ} → WritesOnly waiting old mid a b → IsNoted Synced b mid new
+pub syncs_then : {waiting : WaitingWrites} {old mid new : List Happened} {a b c : List ℕ} → WritesOnly waiting old mid a b → IsEventNoted Synced b mid new
     → c ≡ b → WritesAndSyncs waiting old new a c
 syncs_then {waiting = waiting} {old = old} {mid = mid} {new = new} {a = a} written synced same = record {
   between = mid;
   written = subst (λ (bytes : List ℕ). WritesOnly waiting old mid a bytes) (sym same) written;
-  synced = subst (λ (bytes : List ℕ). IsNoted Synced bytes mid new) (sym same) synced;
+  synced = subst (λ (bytes : List ℕ). IsEventNoted Synced bytes mid new) (sym same) synced;
 }
 
 -- a file of so many sectors has them
-has_them : (from : ℕ) (a : List ℕ) → 512 * from ≤ length a → length a < 512 * (from + 1) → HasSectors from a a
+has_them : (from : ℕ) (a : List ℕ) → 512 * from ≤ length a → length a < 512 * (from + 1) → EndsAtSector from a a
 has_them from a there no_more = record { there = there; no_more = no_more; same = λ k lt. refl }
 
 -- nothing changed
@@ -112,7 +112,7 @@ lengthens_none from to a = record { adds = adds_same refl refl; there = λ k lt 
 
 -- it is cut to its whole sectors, or that is refused
 pub cuts : (from to : ℕ) {old new : List Happened} (a b : List ℕ) (done : Bool) → from ≤ to → 512 * from ≤ length a → length a < 512 * (from + 1)
-    → KeepsUpTo (512 * from) a b → OnTrue done (IsNoted (Resized (512 * from)) a old new)
+    → KeepsUpTo (512 * from) a b → OnTrue done (IsEventNoted (Resized (512 * from)) a old new)
     → OnFalse done (IsNotedOrNothing (Resized (512 * from)) old new a b) → LengthensOnly from to old new a b
 cuts from to a b done le there no_more keeps noted tried = record {
   adds = adds_done (Resized (512 * from)) a b done
@@ -123,7 +123,7 @@ cuts from to a b done le there no_more keeps noted tried = record {
 -- and made longer from there, or that is refused
 pub lengthens : (from to : ℕ) {old mid new : List Happened} (a b c : List ℕ) (done : Bool) → from ≤ to → 512 * from ≤ length a
     → length a < 512 * (from + 1) → KeepsUpTo (512 * from) a b → KeepsUpTo (512 * to) b c → LengthensOnly from to old mid a b
-    → OnTrue done (IsNoted (Resized (512 * to)) b mid new) → OnFalse done (IsNotedOrNothing (Resized (512 * to)) mid new b c)
+    → OnTrue done (IsEventNoted (Resized (512 * to)) b mid new) → OnFalse done (IsNotedOrNothing (Resized (512 * to)) mid new b c)
     → LengthensOnly from to old new a c
 lengthens from to a b c done le there no_more cut long first noted tried = record {
   adds = adds_then first.adds
@@ -136,7 +136,7 @@ lengthens from to a b c done le there no_more cut long first noted tried = recor
     ends (inl less) = omega (arith, less, no_more)
     ends (inr less) = omega (arith, less)
 
-    has : HasSectors from a b
+    has : EndsAtSector from a b
     has = record { there = omega (arith, cut.no_shorter, there); no_more = ends cut.no_longer; same = λ k lt. cut_keeps a b from k cut there lt }
 
 -- a part of sectors that wait side by side

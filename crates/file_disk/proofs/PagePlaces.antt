@@ -6,7 +6,7 @@ use Rattle.std.proofs.lemmas.List.{get_or-set_same, get_or-set_other}
 use Rattle.file_disk.specs.declared.waiting_page.WaitingPage.{WaitingPage}
 use Rattle.file_disk.specs.Bytes.{sector_of, LeavesOthers}
 use Rattle.file_disk.specs.WaitingSectors.{no_page, page_at, has_sector, place_of, slot_in, slot_of, given, shown_of}
-use Rattle.file_disk.specs.lemmas.WaitingSectors.{AreDistinct, AreNoted, ArePlaced}
+use Rattle.file_disk.specs.lemmas.WaitingSectors.{AreDistinct, AreHinted, ArePlaced}
 use Rattle.file_disk.proofs.Slots.{place_found, place_is, none_is, place_same, shown_same, slots_same, stands}
 
 -- the page at a place, once it is put there
@@ -112,8 +112,8 @@ added_placed pages count page room below placed = λ p lt. elim (cases_eq p coun
 
 -- and are noted
 pub added_noted : (pages : List WaitingPage) (count hint : ℕ) (page : WaitingPage) (hints : List ℕ) → count < length pages
-    → hint ≡ page.number % 4096 → hint < length hints → AreNoted pages count hints
-    → AreNoted (slice_set pages count page) (count + 1) (slice_set hints hint (count + 1))
+    → hint ≡ page.number % 4096 → hint < length hints → AreHinted pages count hints
+    → AreHinted (slice_set pages count page) (count + 1) (slice_set hints hint (count + 1))
 added_noted pages count hint page hints room at within noted =
     let here : get_or (slice_set hints hint (count + 1)) hint 0 ≡ count + 1 = get_or-set_same hints hint (count + 1) 0 within in
     let some : (n : ℕ) → n % 4096 ≡ hint → get_or (slice_set hints hint (count + 1)) (n % 4096) 0 ≢ 0 =

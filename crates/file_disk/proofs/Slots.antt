@@ -8,7 +8,7 @@ use Rattle.std.proofs.lemmas.Option.{same_Some}
 use Rattle.file_disk.specs.declared.waiting_page.WaitingPage.{WaitingPage}
 use Rattle.file_disk.specs.Bytes.{sector_of}
 use Rattle.file_disk.specs.WaitingSectors.{no_page, page_at, has_sector, place_of, slot_in, slot_of, given, shown_of}
-use Rattle.file_disk.specs.lemmas.WaitingSectors.{AreDistinct, AreNoted}
+use Rattle.file_disk.specs.lemmas.WaitingSectors.{AreDistinct, AreHinted}
 
 -- a page that has a place is found there
 pub place_found : (pages : List WaitingPage) (count p page : ℕ) → AreDistinct pages count → p < count → (page_at pages p).number ≡ page
@@ -33,7 +33,7 @@ place_none pages (suc n) page none =
     rw not_here (place_none pages n page (λ p lt. none p (omega arith)))
 
 -- a page of whose remainder nothing is noted has no place
-pub not_noted : (pages : List WaitingPage) (count page hint : ℕ) (hints : List ℕ) → AreNoted pages count hints → hint ≡ page % 4096
+pub not_noted : (pages : List WaitingPage) (count page hint : ℕ) (hints : List ℕ) → AreHinted pages count hints → hint ≡ page % 4096
     → get_or hints hint 0 ≡ 0
     → place_of pages count page ≡ None
 not_noted pages count page hint hints noted at none =

@@ -3,7 +3,7 @@ use Rattle.std.specs.Prelude.{ℕ, ◌+◌, ◌*◌, ◌/◌, ◌<◌, ◌&&◌,
 use Rattle.sector_disk.specs.Disk.{Shown}
 use Rattle.file_disk.specs.declared.waiting_writes.WaitingWrites.{WaitingWrites}
 use Rattle.file_disk.specs.Events.{Happened}
-use Rattle.file_disk.specs.Past.{pictured, stands}
+use Rattle.file_disk.specs.Past.{image_of, stands}
 use Rattle.file_disk.specs.Shown.{shown}
 use Rattle.file_disk.specs.WaitingSectors.{slot_of}
 
@@ -15,8 +15,8 @@ pub record Buffers : Type 0 where
   pub sectors : ℕ
 
 -- the file ends before there is room for one sector more
-abbrev pub Ends : Buffers → Type 0
-Ends b = length b.content < 512 * (b.sectors + 1)
+abbrev pub HasNoRoomBehind : Buffers → Type 0
+HasNoRoomBehind b = length b.content < 512 * (b.sectors + 1)
 
 -- the sector waits
 abbrev pub waits : Buffers → ℕ → Bool
@@ -33,7 +33,7 @@ is_calm b k = if waits b k then false else (if is_missing b k then false else (s
 -- what they show
 abbrev pub buffered_now : Buffers → Shown
 buffered_now b = record {
-  contents = pictured (shown b.waiting b.content) b.sectors;
+  contents = image_of (shown b.waiting b.content) b.sectors;
   synced = is_calm b;
   lasting = min b.sectors ((stands b.happened b.content).lasting / 512);
 }

@@ -11,12 +11,12 @@ pub record Happened : Type 0 where
   pub had : List ℕ
 
 -- this event came behind the others, and reads gave these bytes before it
-abbrev pub IsNoted : FileEvent → List ℕ → List Happened → List Happened → Type 0
-IsNoted event had old new = new ≡ old ++ (record { event = event; had = had } ∷ [])
+abbrev pub IsEventNoted : FileEvent → List ℕ → List Happened → List Happened → Type 0
+IsEventNoted event had old new = new ≡ old ++ (record { event = event; had = had } ∷ [])
 
 -- it came, or none did and the bytes are what they were
 abbrev pub IsNotedOrNothing : FileEvent → List Happened → List Happened → List ℕ → List ℕ → Type 0
-IsNotedOrNothing event old new old_bytes new_bytes = IsNoted event old_bytes old new ⊎ ((new ≡ old) × (new_bytes ≡ old_bytes))
+IsNotedOrNothing event old new old_bytes new_bytes = IsEventNoted event old_bytes old new ⊎ ((new ≡ old) × (new_bytes ≡ old_bytes))
 
 -- what reads gave before the first of these, or give now where nothing happened
 abbrev pub had_first : List Happened → List ℕ → List ℕ
@@ -38,7 +38,7 @@ IsLengthening from to Synced = ⊥
 IsLengthening from to (Resized bytes) = (512 * from ≤ bytes) × (bytes ≤ 512 * to)
 
 -- it ends with the sector before this one, or after it before there is room for one more, and its sectors are as they were
-pub record HasSectors (sectors : ℕ) (old new : List ℕ) : Type 0 where
+pub record EndsAtSector (sectors : ℕ) (old new : List ℕ) : Type 0 where
   pub there : 512 * sectors ≤ length new
   pub no_more : length new < 512 * (sectors + 1)
   pub same : (k : ℕ) → k < sectors → sector_of new k ≡ sector_of old k
@@ -46,7 +46,7 @@ pub record HasSectors (sectors : ℕ) (old new : List ℕ) : Type 0 where
 -- a change of the length of a file of so many sectors, before which it had those
 pub record Lengthens (from to : ℕ) (content : List ℕ) (happened : Happened) : Type 0 where
   pub event : IsLengthening from to happened.event
-  pub had : HasSectors from content happened.had
+  pub had : EndsAtSector from content happened.had
 
 -- its length changed, and nothing else happened: no sector that it had is cut off
 pub record LengthensOnly (from to : ℕ) (old new : List Happened) (old_bytes new_bytes : List ℕ) : Type 0 where

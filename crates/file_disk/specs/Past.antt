@@ -1,15 +1,15 @@
 -- What a file showed by sectors when so many things had happened to it, and which of them were synced.
 use Rattle.std.specs.Prelude.{ℕ, zero, suc, ◌+◌, ◌*◌, ◌/◌, ◌&&◌, min, nat_lt, nat_le, Bool, true, false, if◌then◌else◌, List, [], ◌∷◌, ◌++◌, length, take, drop}
-use Rattle.sector_disk.specs.Disk.{Picture, Shown}
+use Rattle.sector_disk.specs.Disk.{Image, Shown}
 use Rattle.file_disk.specs.declared.file_event.FileEvent.{FileEvent}
 use Rattle.file_disk.specs.declared.file_event.FileEvent.TheVariants.{Wrote, Synced, Resized}
 use Rattle.file_disk.specs.Bytes.{sector_of}
 use Rattle.file_disk.specs.Events.{Happened, had_first}
 
 -- this many sectors, each with its bytes
-unfoldable pub pictured : (ℕ → List ℕ) → ℕ → Picture
-pictured bytes zero = []
-pictured bytes (suc sectors) = pictured bytes sectors ++ bytes sectors ∷ []
+unfoldable pub image_of : (ℕ → List ℕ) → ℕ → Image
+image_of bytes zero = []
+image_of bytes (suc sectors) = image_of bytes sectors ++ bytes sectors ∷ []
 
 -- how a file stands: which of its sectors no event has touched since the last sync, and how many bytes are there after a stop
 pub record Standing : Type 0 where
@@ -51,7 +51,7 @@ bytes_then happened now k = had_first (drop k happened) now
 -- what a file shows that has these bytes and stands so, by whole sectors
 abbrev pub file_shown : List ℕ → Standing → Shown
 file_shown bytes standing = record {
-  contents = pictured (sector_of bytes) (length bytes / 512);
+  contents = image_of (sector_of bytes) (length bytes / 512);
   synced = standing.synced;
   lasting = standing.lasting / 512;
 }

@@ -3,7 +3,7 @@ use Rattle.std.specs.Prelude.{ℕ, ◌+◌, ◌/◌, ◌<◌, ◌≤◌, List}
 use Rattle.file_disk.specs.declared.file_event.FileEvent.{FileEvent}
 use Rattle.file_disk.specs.declared.file_event.FileEvent.TheVariants.{Wrote, Synced, Resized}
 use Rattle.file_disk.specs.declared.waiting_writes.WaitingWrites.{WaitingWrites}
-use Rattle.file_disk.specs.Events.{Happened, Adds, IsNoted}
+use Rattle.file_disk.specs.Events.{Happened, Adds, IsEventNoted}
 use Rattle.file_disk.specs.Shown.{Waits}
 use Rattle.file_disk.specs.lemmas.WaitingSectors.{ShowsSame}
 
@@ -27,4 +27,4 @@ pub record WritesOnly (waiting : WaitingWrites) (old new : List Happened) (old_b
 pub record WritesAndSyncs (waiting : WaitingWrites) (old new : List Happened) (old_bytes new_bytes : List ℕ) : Type 0 where
   pub between : List Happened
   pub written : WritesOnly waiting old between old_bytes new_bytes
-  pub synced : IsNoted Synced new_bytes between new
+  pub synced : IsEventNoted Synced new_bytes between new

@@ -40,5 +40,5 @@ abbrev pub shown_of : List WaitingPage → ℕ → List ℕ → List ℕ → ℕ
 shown_of pages count bytes content at = given bytes (sector_of content at) (slot_of pages count at)
 
 -- there is a place for this sector: its page has one, or one is free
-abbrev pub HasRoom : List WaitingPage → ℕ → ℕ → Type 0
-HasRoom pages count at = ((p : ℕ) × (place_of pages count (at / 8) ≡ Some p)) ⊎ (count < length pages)
+abbrev pub HasWaitingPlace : List WaitingPage → ℕ → ℕ → Type 0
+HasWaitingPlace pages count at = ((p : ℕ) × (place_of pages count (at / 8) ≡ Some p)) ⊎ (count < length pages)

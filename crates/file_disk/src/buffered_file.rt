@@ -6,7 +6,7 @@ ghost use Rattle.file_disk.specs.Bytes.{sector_of};
 ghost use Rattle.file_disk.specs.Events.{LengthensOnly};
 ghost use Rattle.file_disk.specs.Shown.{shown, Waits};
 ghost use Rattle.file_disk.specs.Touched.{WritesOnly, WritesAndSyncs};
-ghost use Rattle.file_disk.specs.WaitingSectors.{HasRoom, slot_of};
+ghost use Rattle.file_disk.specs.WaitingSectors.{HasWaitingPlace, slot_of};
 ghost use Rattle.file_disk.specs.lemmas.WaitingSectors.{AreInside, IsCopyOf};
 
 use crate::byte_file::ByteFile;
@@ -129,8 +129,8 @@ impl<F: ByteFile + Drop> BufferedFile<F> {
         ensures others { IsTrue (F.honest self.old.file) → (k : ℕ) → k ≢ at
             → shown self.new.waiting (F.content self.new.file) k ≡ shown self.old.waiting (F.content self.old.file) k }
         ensures only { (k : ℕ) → Waits self.new.waiting k → (k ≡ at) ⊎ Waits self.old.waiting k }
-        ensures waits { HasRoom self.old.waiting.pages.items self.old.waiting.count at → self.new.file ≡ self.old.file }
-        ensures done { HasRoom self.old.waiting.pages.items self.old.waiting.count at → self.old.lost ≡ false → result ≡ true }
+        ensures waits { HasWaitingPlace self.old.waiting.pages.items self.old.waiting.count at → self.new.file ≡ self.old.file }
+        ensures done { HasWaitingPlace self.old.waiting.pages.items self.old.waiting.count at → self.old.lost ≡ false → result ≡ true }
         ensures lasts { IsTrue (F.honest self.old.file) → F.durable self.new.file ≡ F.durable self.old.file }
         ensures touched { IsTrue (F.honest self.old.file) → WritesOnly self.old.waiting (F.events self.old.file) (F.events self.new.file)
             (F.content self.old.file) (F.content self.new.file) }

@@ -3,7 +3,7 @@ ghost use Rattle.std.specs.Prelude.{◌≡◌, ◌+◌, ◌≤◌, ℕ, List, Bo
 ghost use Rattle.std.specs.Bool.{OnTrue, OnFalse};
 ghost use Rattle.file_disk.specs.declared.file_event.FileEvent.{FileEvent};
 ghost use Rattle.file_disk.specs.Bytes.{bytes_at, LeavesOthers, KeepsUpTo, IsResized};
-ghost use Rattle.file_disk.specs.Events.{Happened, IsNoted, IsNotedOrNothing};
+ghost use Rattle.file_disk.specs.Events.{Happened, IsEventNoted, IsNotedOrNothing};
 ghost use Rattle.file_disk.specs.Failures.{TellsFailure};
 
 use crate::file_event::FileEvent;
@@ -52,7 +52,7 @@ pub trait ByteFile {
             → LeavesOthers at (length from.now) (content self.old) (content self.new) }
         ensures lasts { IsTrue (honest self.old) → durable self.new ≡ durable self.old }
         ensures noted { IsTrue (honest self.old)
-            → OnTrue result (IsNoted (FileEvent.Wrote at (length from.now)) (content self.old) (events self.old) (events self.new)) }
+            → OnTrue result (IsEventNoted (FileEvent.Wrote at (length from.now)) (content self.old) (events self.old) (events self.new)) }
         ensures tried { IsTrue (honest self.old) → OnFalse result
             (IsNotedOrNothing (FileEvent.Wrote at (length from.now)) (events self.old) (events self.new) (content self.old) (content self.new)) }
         ensures counted { IsTrue (honest self.old) → TellsFailure result (failures self.old) (failures self.new) }
@@ -63,7 +63,7 @@ pub trait ByteFile {
         ensures all { IsTrue (honest self.old) → OnTrue result (durable self.new ≡ content self.new) }
         ensures unchanged { IsTrue (honest self.old) → content self.new ≡ content self.old }
         ensures noted { IsTrue (honest self.old)
-            → OnTrue result (IsNoted FileEvent.Synced (content self.old) (events self.old) (events self.new)) }
+            → OnTrue result (IsEventNoted FileEvent.Synced (content self.old) (events self.old) (events self.new)) }
         ensures tried { IsTrue (honest self.old) → OnFalse result (events self.new ≡ events self.old) }
         ensures counted { IsTrue (honest self.old) → TellsFailure result (failures self.old) (failures self.new) }
         ensures same_honest { honest self.new ≡ honest self.old };
@@ -74,7 +74,7 @@ pub trait ByteFile {
         ensures kept { IsTrue (honest self.old) → KeepsUpTo bytes (content self.old) (content self.new) }
         ensures lasts { IsTrue (honest self.old) → durable self.new ≡ durable self.old }
         ensures noted { IsTrue (honest self.old)
-            → OnTrue result (IsNoted (FileEvent.Resized bytes) (content self.old) (events self.old) (events self.new)) }
+            → OnTrue result (IsEventNoted (FileEvent.Resized bytes) (content self.old) (events self.old) (events self.new)) }
         ensures tried { IsTrue (honest self.old) → OnFalse result
             (IsNotedOrNothing (FileEvent.Resized bytes) (events self.old) (events self.new) (content self.old) (content self.new)) }
         ensures counted { IsTrue (honest self.old) → TellsFailure result (failures self.old) (failures self.new) }

@@ -2,8 +2,8 @@
 ghost use Rattle.std.specs.Prelude.{◌≡◌, ◌≢◌, ◌↔◌, ◌+◌, ◌*◌, ◌/◌, ◌%◌, ◌^◌, ◌<◌, ◌≤◌, ℕ, List, true, length, IfOk, IfSome, IfNone, None};
 ghost use Rattle.std.specs.Bool.{OnTrue, OnFalse};
 ghost use Rattle.file_disk.specs.Bytes.{sector_of, LeavesOthers};
-ghost use Rattle.file_disk.specs.WaitingSectors.{page_at, place_of, slot_of, shown_of, HasRoom};
-ghost use Rattle.file_disk.specs.lemmas.WaitingSectors.{AreDistinct, ArePlaced, AreInside, AreNoted, IsRun};
+ghost use Rattle.file_disk.specs.WaitingSectors.{page_at, place_of, slot_of, shown_of, HasWaitingPlace};
+ghost use Rattle.file_disk.specs.lemmas.WaitingSectors.{AreDistinct, ArePlaced, AreInside, AreHinted, IsRun};
 
 use crate::put_bytes::put_bytes;
 use crate::waiting_page::{WaitingPage, is_whole, set_sector};
@@ -37,7 +37,7 @@ pub struct WaitingWrites {
     ghost distinct: { AreDistinct pages.items count },
     ghost placed: { ArePlaced pages.items count },
     ghost hinted: { length hints.items ≡ 4096 },
-    ghost noted: { AreNoted pages.items count hints.items },
+    ghost noted: { AreHinted pages.items count hints.items },
 }
 
 /// Where the place of this page may be noted.

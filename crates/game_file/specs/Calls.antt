@@ -1,7 +1,7 @@
 -- What the calls on a table's file leave.
 use Rattle.std.specs.Prelude.{◌≡◌, ℕ, false, None, Some, IsTrue}
 use Rattle.sector_disk.specs.Disk.{Disk, LeavesOnly, MayLeave}
-use Rattle.root_pair.specs.Root.{Begins}
+use Rattle.root_pair.specs.Root.{BeginsAsTable}
 use Rattle.game_file.specs.Kept.{Kept, Layout, goal_kept, packing_kept, text_kept}
 use Rattle.game_file.specs.State.{State, GoesAhead, GoesFrom, count_behind, pages_of}
 use Rattle.game_file.specs.Stops.{LeavesNow, LeavesTable, LeavesEither, OldOrEmpty}
@@ -26,14 +26,14 @@ module _ (Stores : ℕ → Layout) where
     pub is_open : file.closed ≡ false
     pub commits : IsTrue disk.honest → file.commits ≡ 0
     pub empty : IsTrue disk.honest → file.kept ≡ None
-    pub fresh : IsTrue disk.honest → ¬ Begins disk.now.contents
+    pub fresh : IsTrue disk.honest → ¬ BeginsAsTable disk.now.contents
     pub leaves : IsTrue disk.honest → LeavesOnly disk file.disk (OldOrEmpty (Stores file.capacity) disk.now)
 
   -- the disk as a refused `create` gives it back; where a table was, a stop leaves what it could leave before
   pub record IsNotCreated (disk : Disk) (count : ℕ) (back : Disk) (now : ℕ) : Type 0 where
     pub from : GoesFrom disk count back now
     pub leaves : IsTrue disk.honest → LeavesOnly disk back (OldOrEmpty (Stores (pages_of disk)) disk.now)
-    pub kept : IsTrue disk.honest → Begins disk.now.contents → LeavesOnly disk back (MayLeave disk.now)
+    pub kept : IsTrue disk.honest → BeginsAsTable disk.now.contents → LeavesOnly disk back (MayLeave disk.now)
 
   -- this is kept now in the place of what was, by one commit more, and a stop meanwhile leaves the one or the other
   pub record IsPut (is : Kept) (old new : State) : Type 0 where

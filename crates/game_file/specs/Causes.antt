@@ -1,7 +1,7 @@
 -- Why a call on a table's file answers a fault.
 use Rattle.std.specs.Prelude.{◌≡◌, ◌<◌, ℕ, true, List, length, Option, IsTrue}
 use Rattle.sector_disk.specs.Disk.{Disk, size, Grew}
-use Rattle.root_pair.specs.Root.{Begins, IsTablePicture}
+use Rattle.root_pair.specs.Root.{BeginsAsTable, IsTableImage}
 use Rattle.retrograde.specs.Stored.{Stored}
 use Rattle.table.specs.Fit.{FitsTogether}
 use Rattle.table.specs.declared.fault.TableFault.{TableFault}
@@ -16,10 +16,10 @@ use Rattle.game_file.specs.declared.fault.FileFault.TheVariants.{TableFull, OutO
 -- of an earlier layout; or memory ran out
 abbrev pub FileOpenCause : Layout → Older → Disk → ℕ → ℕ → FileFault → Type 0
 FileOpenCause Stores IsOlder disk before now DiskFailed = Grew before now
-FileOpenCause Stores IsOlder disk before now NotATable = IsTrue disk.honest → ¬ IsTablePicture disk.now.contents
+FileOpenCause Stores IsOlder disk before now NotATable = IsTrue disk.honest → ¬ IsTableImage disk.now.contents
 FileOpenCause Stores IsOlder disk before now Damaged =
     IsTrue disk.honest
-    → IsTablePicture disk.now.contents × ((kept : Option Kept) → ¬ Stores disk.now.contents kept) × (¬ IsOlder disk.now.contents)
+    → IsTableImage disk.now.contents × ((kept : Option Kept) → ¬ Stores disk.now.contents kept) × (¬ IsOlder disk.now.contents)
 FileOpenCause Stores IsOlder disk before now OldLayout = IsTrue disk.honest → IsOlder disk.now.contents
 FileOpenCause Stores IsOlder disk before now OutOfMemory = Unit {0}
 FileOpenCause Stores IsOlder disk before now _ = ⊥
@@ -28,9 +28,9 @@ FileOpenCause Stores IsOlder disk before now _ = ⊥
 abbrev pub FileCreateCause : Disk → ℕ → ℕ → FileFault → Type 0
 FileCreateCause disk before now DiskFailed = Grew before now
 FileCreateCause disk before now NotATable = ¬ IsTrue disk.honest
-FileCreateCause disk before now AlreadyATable = IsTrue disk.honest → Begins disk.now.contents
+FileCreateCause disk before now AlreadyATable = IsTrue disk.honest → BeginsAsTable disk.now.contents
 FileCreateCause disk before now Damaged = ¬ IsTrue disk.honest
-FileCreateCause disk before now TooSmall = (size disk < 128) × (IsTrue disk.honest → ¬ Begins disk.now.contents)
+FileCreateCause disk before now TooSmall = (size disk < 128) × (IsTrue disk.honest → ¬ BeginsAsTable disk.now.contents)
 FileCreateCause disk before now OutOfMemory = Unit {0}
 FileCreateCause disk before now _ = ⊥
 

@@ -1,7 +1,7 @@
 -- What the 512 bytes of a root slot say in every layout. All numbers have their highest byte first.
 use Rattle.std.specs.Prelude.{◌≡◌, ◌==◌, if◌then◌else◌, ℕ, ◌⊎◌, ◌/◌, ◌≤◌, ◌<◌, min, nat_lt, List, length, drop, slice_index, Option, None, Some}
 use Rattle.byteorder.specs.Endian.{big_number}
-use Rattle.sector_disk.specs.Disk.{Picture}
+use Rattle.sector_disk.specs.Disk.{Image}
 use Rattle.position_pack.specs.declared.kind.PackingKind.{PackingKind}
 use Rattle.position_pack.specs.declared.kind.PackingKind.TheVariants.{Bytes, Bits}
 use Rattle.game_file.specs.declared.sizes.Sizes.{Sizes}
@@ -78,6 +78,6 @@ goal_number_in root = if nat_lt (layout_in root) 3 then 0 else word_at root 72
 abbrev pub HasPlaceFor : ℕ → ℕ → Type 0
 HasPlaceFor layout number = (3 ≤ layout) ⊎ (number ≡ 0)
 
--- this many pages are used of a picture: those that it has room for, 1,048,576 at most
-abbrev pub capacity_of : Picture → ℕ
-capacity_of picture = min (length picture / 8) MAX_PAGES
+-- this many pages are used of an image: those that it has room for, 1,048,576 at most
+abbrev pub capacity_of : Image → ℕ
+capacity_of image = min (length image / 8) MAX_PAGES

@@ -26,7 +26,7 @@ module _ (Stores : ℕ → Layout) where
   -- between the two moments a stop leaves what was kept, in as many pages as before or in this many
   abbrev pub LeavesEitherSize : ℕ → State → State → Type 0
   LeavesEitherSize pages old new =
-      LeavesOnly old.disk new.disk (λ picture. Stores old.capacity picture old.kept ⊎ Stores pages picture old.kept)
+      LeavesOnly old.disk new.disk (λ image. Stores old.capacity image old.kept ⊎ Stores pages image old.kept)
 
   -- the file has this many pages now, by one commit more, and what was kept still is; a stop meanwhile leaves it in as many pages as there
   -- were or in this many

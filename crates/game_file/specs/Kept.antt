@@ -1,6 +1,6 @@
--- What a file keeps of a game, and which pictures of a disk store it.
+-- What a file keeps of a game, and which images of a disk store it.
 use Rattle.std.specs.Prelude.{ℕ, List, Option, None, Some}
-use Rattle.sector_disk.specs.Disk.{Picture}
+use Rattle.sector_disk.specs.Disk.{Image}
 use Rattle.retrograde.specs.Changes.{counts_of}
 use Rattle.retrograde.specs.Stored.{Stored}
 use Rattle.retrograde.specs.declared.records.Counts.{Counts}
@@ -37,14 +37,14 @@ abbrev pub counts_kept : Option Kept → Option Counts
 counts_kept None = None
 counts_kept (Some kept) = Some (counts_of kept.table)
 
--- which table a picture of a disk stores, or that it stores the empty one; each layout says so in its own way
+-- which table an image of a disk stores, or that it stores the empty one; each layout says so in its own way
 abbrev pub Layout : Type 1
-Layout = Picture → Option Kept → Type 0
+Layout = Image → Option Kept → Type 0
 
--- the picture stores this in some number of pages
+-- the image stores this in some number of pages
 abbrev pub in_any : (ℕ → Layout) → Layout
-in_any Stores picture kept = (pages : ℕ) × Stores pages picture kept
+in_any Stores image kept = (pages : ℕ) × Stores pages image kept
 
--- which picture of a disk holds a table of an earlier layout: each layout of a file says it in its own way
+-- which image of a disk holds a table of an earlier layout: each layout of a file says it in its own way
 abbrev pub Older : Type 1
-Older = Picture → Type 0
+Older = Image → Type 0

@@ -1,8 +1,8 @@
 //! What a game's table in a file promises.
 ghost use Rattle.std.specs.Prelude.{◌≡◌, ◌≢◌, ◌⊎◌, ◌+◌, ◌≤◌, ◌<◌, ◌^◌, ℕ, true, false, Option, None, Some, length, OnOk, OnErr, IfOk, IfErr};
 ghost use Rattle.std.specs.Prelude.{IsErrOf, IfSome, IfNone, IsTrue, option_map};
-ghost use Rattle.sector_disk.specs.Disk.{Picture};
-ghost use Rattle.root_pair.specs.Root.{IsTablePicture};
+ghost use Rattle.sector_disk.specs.Disk.{Image};
+ghost use Rattle.root_pair.specs.Root.{IsTableImage};
 ghost use Rattle.retrograde.specs.Stored.{IsTable, loaded};
 ghost use Rattle.table.specs.declared.fault.TableFault.{TableFault};
 ghost use Rattle.game_file.specs.Kept.{Kept, Layout, Older, goal_kept, in_any, kept_as, packing_kept, text_kept};
@@ -31,10 +31,10 @@ pub trait GameFile: Table {
     /// The disk that it is on.
     type Device: SectorDisk;
 
-    /// Which pictures of the disk store which table in this many pages: the layout of the file.
+    /// Which images of the disk store which table in this many pages: the layout of the file.
     ghost stores: { ℕ → Layout };
 
-    /// Which pictures of the disk hold a table of an earlier layout, which is not opened.
+    /// Which images of the disk hold a table of an earlier layout, which is not opened.
     ghost is_older: { Older };
 
     /// Its disk, and what the last commit keeps.
@@ -188,15 +188,15 @@ pub trait GameFile: Table {
         ensures disk { Self.Device.disk result ≡ (state self).disk }
         ensures failures { Self.Device.failures result ≡ (state self).failures };
 
-    /// A picture stores one table at most, in whatever number of pages.
-    ghost stores_one: { (m n : ℕ) (picture : Picture) (one other : Option Kept) → stores m picture one → stores n picture other
+    /// An image stores one table at most, in whatever number of pages.
+    ghost stores_one: { (m n : ℕ) (image : Image) (one other : Option Kept) → stores m image one → stores n image other
         → one ≡ other };
 
-    /// A picture that holds a table of an earlier layout stores none.
-    ghost older_stores_none: { (pages : ℕ) (picture : Picture) (kept : Option Kept) → is_older picture → stores pages picture kept → ⊥ };
+    /// An image that holds a table of an earlier layout stores none.
+    ghost older_stores_none: { (pages : ℕ) (image : Image) (kept : Option Kept) → is_older image → stores pages image kept → ⊥ };
 
-    /// A picture that stores a table begins as each table does.
-    ghost stores_begins: { (pages : ℕ) (picture : Picture) (kept : Option Kept) → stores pages picture kept → IsTablePicture picture };
+    /// An image that stores a table begins as each table does.
+    ghost stores_begins: { (pages : ℕ) (image : Image) (kept : Option Kept) → stores pages image kept → IsTableImage image };
 
     /// A stop of a file that is whole and open leaves what it keeps.
     ghost whole_leaves: { (file : Self) → is_whole file → IsTrue (state file).disk.honest → (state file).closed ≡ false

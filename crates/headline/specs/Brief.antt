@@ -3,7 +3,7 @@
 -- by the relations of one record, `Calls`, which are not said here; `AreLawful` says what holds of them, and the headline
 -- in brief of each history of such calls.
 use Rattle.std.specs.Prelude.{◌≡◌, ◌⊎◌, ℕ, ◌+◌, ◌<◌, List, [], ◌∷◌, ◌++◌, length, Contains, Option, None, Some, IsTrue, Result, Ok, Err, IfErr, IsErrOf}
-use Rattle.sector_disk.specs.Disk.{Picture, Shown, Disk, GoesOn, MayLeave, StopsIn, Grew}
+use Rattle.sector_disk.specs.Disk.{Image, Shown, Disk, GoesOn, MayLeave, StopsIn, Grew}
 use Rattle.rbg_text.specs.Token.{Text}
 use Rattle.rbg_game.specs.declared.position.Position.{Position}
 use Rattle.rbg_game.specs.declared.roles.Player.{Player}
@@ -191,7 +191,7 @@ module _ {S : Type 0} (calls : Calls S) where
 
   -- an honest disk as it is found after a stop: nothing can be left of it that the stop could not leave
   abbrev pub IsFoundAs : Shown → Disk → Type 0
-  IsFoundAs left d = IsTrue d.honest × ((picture : Picture) → MayLeave d.now picture → MayLeave left picture)
+  IsFoundAs left d = IsTrue d.honest × ((image : Image) → MayLeave d.now image → MayLeave left image)
 
   -- calls one after another: commands with their answers, and others between them; and what they told
   pub data AreCalls : List (Command × BriefAnswer) → List Told → S → S → Type 0 where
@@ -250,13 +250,13 @@ module _ {S : Type 0} (calls : Calls S) where
   -- last answer, or what the command in doubt makes of that; each began with what the one before left so, and the first
   -- with the empty table. What the table tells is so, and whatever was told in any of the sittings it tells again, but
   -- that a value is open. `open` is refused only if the disk failed or memory ran out
-  pub record BriefHeadline (sittings : List BriefSitting) (picture : Picture) : Type 0 where
+  pub record BriefHeadline (sittings : List BriefSitting) (image : Image) : Type 0 where
     pub table : Option BriefTable
     pub made : SittingsMake sittings None table
     pub again : (sitting : BriefSitting) (one : Told) → Contains sittings sitting → Contains sitting.told one
         → IsForGood one → IsTold one table
     pub so : IsTrueOfItsGame table
-    pub gives : (d : Disk) (s : S) → IsTrue d.honest → d.now.contents ≡ picture → calls.opened d s → calls.tells s table
-    pub fails : (d later : Disk) (fault : SolverFault) → IsTrue d.honest → d.now.contents ≡ picture
+    pub gives : (d : Disk) (s : S) → IsTrue d.honest → d.now.contents ≡ image → calls.opened d s → calls.tells s table
+    pub fails : (d later : Disk) (fault : SolverFault) → IsTrue d.honest → d.now.contents ≡ image
         → calls.not_opened d later fault
         → (fault ≡ DiskFailed) ⊎ (fault ≡ OutOfMemory)

@@ -1,7 +1,7 @@
 //! The headline in brief: the calls of a table in a file, and what holds of every history of them.
 ghost use Rattle.std.specs.Prelude.{◌≡◌, ◌≤◌, ◌<◌, ℕ, List, Option, None, Some, Ok, IsTrue, IfOk, IfErr, IfSome, OnOk, OnErr};
 ghost use Rattle.audit.specs.declared.verdict.Verdict.TheVariants.{Right};
-ghost use Rattle.sector_disk.specs.Disk.{Picture, Shown, GoesOn, MayLeave, Grew};
+ghost use Rattle.sector_disk.specs.Disk.{Image, Shown, GoesOn, MayLeave, Grew};
 ghost use Rattle.rbg_game.specs.Goals.{points_of};
 ghost use Rattle.solver.specs.Machine.{load as load_it, work as work_on};
 ghost use Rattle.solver.specs.Runs.{command_of};
@@ -135,9 +135,9 @@ pub trait SavedTable {
     ghost lawful: { AreLawful calls };
 
     /// The headline in brief, of every history of them.
-    ghost headline: { (sittings : List BriefSitting) (left : Shown) (picture : Picture)
-        → BriefHistory calls sittings left → MayLeave left picture
-        → BriefHeadline calls sittings picture };
+    ghost headline: { (sittings : List BriefSitting) (left : Shown) (image : Image)
+        → BriefHistory calls sittings left → MayLeave left image
+        → BriefHeadline calls sittings image };
 }
 
 /// The headline in brief. A table is made, and used in any number of sittings; each opens what was left, and may end by
@@ -147,9 +147,9 @@ pub trait SavedTable {
 /// player in exactly the named number of moves, and if it is finished, its positions are those that play can come to,
 /// and the unsettled exactly the drawn.
 pub fn the_headline_in_brief<S: SavedTable>()
-    ensures { (sittings : List BriefSitting) (left : Shown) (picture : Picture) → BriefHistory S.calls sittings left
-        → MayLeave left picture
-        → BriefHeadline S.calls sittings picture }
+    ensures { (sittings : List BriefSitting) (left : Shown) (image : Image) → BriefHistory S.calls sittings left
+        → MayLeave left image
+        → BriefHeadline S.calls sittings image }
 {}
 
 /// What holds of the calls: each goes on from the disk that it was given, what is shut refuses and stays, and the table

@@ -12,7 +12,7 @@ use Rattle.tree_table.specs.Held.{StoresTrees}
 use Rattle.in_process.specs.Calls.{IsDiskOf}
 use Rattle.in_process.specs.Given.{IsGiven}
 use Rattle.in_process.specs.Kept.{IsAskable, IsOpenOn}
-use Rattle.in_process.specs.Rooms.{Boxed, IsAdded, IsTaken}
+use Rattle.in_process.specs.Rooms.{Boxed, IsTableAdded, IsTakenOver}
 use Rattle.in_process.specs.declared.held.HeldTable.{HeldTable}
 use Rattle.in_process.specs.declared.places.HeldTables.{HeldTables}
 
@@ -20,12 +20,12 @@ use Rattle.in_process.specs.declared.places.HeldTables.{HeldTables}
 pub not_taken : {bytes out told : List ℕ} {tables : HeldTables} {number given result : ℕ} (disk back : Disk) (count now : ℕ) (why : SolverFault) → count ≡ 0
     → IsDiskOf bytes disk → IsUnopened (StoresTrees 3) disk count why back now
     → (result ≢ 5 → (result ≡ status_of why) × IsGiven (fault_line why) out told given) → (result ≡ 5 → (given ≡ 0) × (told ≡ out))
-    → IsTaken bytes tables tables number number out told given result
+    → IsTakenOver bytes tables tables number number out told given result
 not_taken {bytes} {out} {told} {tables} {number} {given} {result} disk back count now why none is_disk unopened gives no_memory = elim (eqb_tells result 5) [
-  | inl five ↦ subst (IsTaken bytes tables tables number number out told given) (sym five.1)
-      (IsTaken.no_memory (record { tables = refl; number = refl }) (no_memory five.1).0 (no_memory five.1).1)
-  | inr other ↦ subst (IsTaken bytes tables tables number number out told given) (sym (gives other.1).0)
-      (IsTaken.refused disk back now why is_disk (subst (λ n. IsUnopened (StoresTrees 3) disk n why back now) none unopened) (gives other.1).1
+  | inl five ↦ subst (IsTakenOver bytes tables tables number number out told given) (sym five.1)
+      (IsTakenOver.no_memory (record { tables = refl; number = refl }) (no_memory five.1).0 (no_memory five.1).1)
+  | inr other ↦ subst (IsTakenOver bytes tables tables number number out told given) (sym (gives other.1).0)
+      (IsTakenOver.refused disk back now why is_disk (subst (λ n. IsUnopened (StoresTrees 3) disk n why back now) none unopened) (gives other.1).1
       (record { tables = refl; number = refl }))
 ]
 
@@ -33,7 +33,7 @@ not_taken {bytes} {out} {told} {tables} {number} {given} {result} disk back coun
 pub added : {tables after : HeldTables} {number : ℕ} (disk : Disk) (count : ℕ) (is : State) (table : HeldTable) → count ≡ 0
     → IsOpened (StoresTrees 3) disk count is → IsOpenOn is table.kept → IsAskable table.kept → table.answers.items ≡ []
     → (held : Boxed) × (held.value ≡ table) × (after.places.items ≡ tables.places.items ++ Some held ∷ []) → number ≡ length tables.places.items
-    → IsAdded disk tables after number
+    → IsTableAdded disk tables after number
 added disk count is table zero opened on askable none (held, same, behind) numbered = record {
   is = is;
   opened = subst (λ n. IsOpened (StoresTrees 3) disk n is) zero opened;

@@ -24,7 +24,7 @@ abbrev pub table_at : HeldTables → ℕ → Option Boxed
 table_at tables number = slice_index_or tables.places.items number None
 
 -- a table was opened on this disk, and is kept so with no answer that waits, behind the tables that were there; its number is told
-pub record IsAdded (disk : Disk) (before after : HeldTables) (number : ℕ) : Type 0 where
+pub record IsTableAdded (disk : Disk) (before after : HeldTables) (number : ℕ) : Type 0 where
   pub is : State
   pub opened : IsOpened (StoresTrees 3) disk 0 is
   pub held : Boxed
@@ -35,7 +35,7 @@ pub record IsAdded (disk : Disk) (before after : HeldTables) (number : ℕ) : Ty
   pub numbered : number ≡ length before.places.items
 
 -- no table was added, and no number told
-pub record IsUnchanged (before after : HeldTables) (number_was number_is : ℕ) : Type 0 where
+pub record AddsNoTable (before after : HeldTables) (number_was number_is : ℕ) : Type 0 where
   pub tables : after.places.items ≡ before.places.items
   pub number : number_is ≡ number_was
 
@@ -43,14 +43,14 @@ pub record IsUnchanged (before after : HeldTables) (number_was number_is : ℕ) 
 --   opened     it was opened and has a number
 --   refused    it could not be opened: the line of the refusal is given
 --   no_memory  memory ran out
-pub data IsTaken (bytes : List ℕ) (before after : HeldTables) (number_was number_is : ℕ) (out told : List ℕ) (count : ℕ) : ℕ → Type 0 where
-  opened : (disk : Disk) → IsDiskOf bytes disk → IsAdded disk before after number_is → count ≡ 0 → told ≡ out
-      → IsTaken bytes before after number_was number_is out told count 0
+pub data IsTakenOver (bytes : List ℕ) (before after : HeldTables) (number_was number_is : ℕ) (out told : List ℕ) (count : ℕ) : ℕ → Type 0 where
+  opened : (disk : Disk) → IsDiskOf bytes disk → IsTableAdded disk before after number_is → count ≡ 0 → told ≡ out
+      → IsTakenOver bytes before after number_was number_is out told count 0
   refused : (disk back : Disk) (now : ℕ) (why : SolverFault) → IsDiskOf bytes disk → IsUnopened (StoresTrees 3) disk 0 why back now
-      → IsGiven (fault_line why) out told count → IsUnchanged before after number_was number_is
-      → IsTaken bytes before after number_was number_is out told count (status_of why)
-  no_memory : IsUnchanged before after number_was number_is → count ≡ 0 → told ≡ out
-      → IsTaken bytes before after number_was number_is out told count 5
+      → IsGiven (fault_line why) out told count → AddsNoTable before after number_was number_is
+      → IsTakenOver bytes before after number_was number_is out told count (status_of why)
+  no_memory : AddsNoTable before after number_was number_is → count ≡ 0 → told ≡ out
+      → IsTakenOver bytes before after number_was number_is out told count 5
 
 -- a call on the table of a number, with its status:
 --   found      this was done to the table of the number, and to no other

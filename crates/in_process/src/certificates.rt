@@ -1,6 +1,6 @@
 //! What is asked of a certificate.
 ghost use Rattle.std.specs.Prelude.{◌≡◌, ◌⊎◌, ℕ, List, None, Some, if◌then◌else◌};
-ghost use Rattle.certificate.specs.Answers.{IsAnswer};
+ghost use Rattle.certificate.specs.Answers.{IsCertificateAnswer};
 ghost use Rattle.in_process.specs.Given.{IsGiven};
 
 use crate::given::give_text;
@@ -19,7 +19,7 @@ pub extern "C" fn rbg_check(
     count: &mut usize,
 ) -> u8
     ensures { (result ≡ 4) ⊎ ((written : List ℕ)
-        × IsAnswer certificate.now (if has_game then Some game.now else None) result written
+        × IsCertificateAnswer certificate.now (if has_game then Some game.now else None) result written
         × IsGiven written out.old out.new count.new) }
 {
     let mut written = Vec::new(alloc);

@@ -5,7 +5,7 @@ ghost use Rattle.solver.specs.Faults.{status_of};
 ghost use Rattle.session_lines.specs.Told.{fault_line};
 ghost use Rattle.in_process.specs.Given.{IsGiven};
 ghost use Rattle.in_process.specs.Lines.{AnswersLinesOn, lines_taken};
-ghost use Rattle.in_process.specs.Rooms.{table_at, IsOnTable, IsTaken, GivesAnswers, GivesBytes};
+ghost use Rattle.in_process.specs.Rooms.{table_at, IsOnTable, IsTakenOver, GivesAnswers, GivesBytes};
 
 use crate::given::{NO_MEMORY, NOT_OPEN, TOO_LONG, give_text};
 use crate::held::HeldTable;
@@ -68,7 +68,7 @@ pub extern "C" fn rbg_open(
     out: &mut [u8],
     count: &mut usize,
 ) -> u8
-    ensures { IsTaken table.now room.old.tables room.new.tables number.old number.new out.old out.new count.new result }
+    ensures { IsTakenOver table.now room.old.tables room.new.tables number.old number.new out.old out.new count.new result }
 {
     let Some(mut tables) = take_tables(alloc, room) else {
         *count = 0;
@@ -88,7 +88,7 @@ fn open_in(
     out: &mut [u8],
     count: &mut usize,
 ) -> u8
-    ensures { IsTaken table.now tables.old tables.new number.old number.new out.old out.new count.new result }
+    ensures { IsTakenOver table.now tables.old tables.new number.old number.new out.old out.new count.new result }
 {
     *count = 0;
     let Ok(disk) = ByteDisk::from_bytes(alloc, table) else {

@@ -7,7 +7,7 @@ use Rattle.rbg_game.specs.Positions.{IsPositionOf}
 use Rattle.position_pack.specs.declared.kind.PackingKind.{PackingKind}
 use Rattle.position_pack.specs.Shape.{shape_of}
 use Rattle.legal_moves.specs.Configurations.{expressions_of}
-use Rattle.legal_moves.specs.Jumps.{AreRows, AreJumps}
+use Rattle.legal_moves.specs.Jumps.{AreJumpRows, AreJumps}
 use Rattle.legal_moves.specs.Made.{CompiledGame}
 use Rattle.legal_moves.specs.Moves.{start_of}
 use Rattle.legal_moves.specs.Tables.{AreTables, AreSame, inner_of}
@@ -37,4 +37,4 @@ pub record IsCompiled (c : Inside) : Type 0 where
   pub tables_are : AreTables (expressions_of (game_of c.game)) c.tables.items
   pub same_are : AreSame (inner_of (game_of c.game).rules) c.same.items
   pub jumps_are : AreJumps (game_of c.game) c.tables.items c.jumps.items
-  pub hops_are : AreRows (game_of c.game) (game_of c.game).rules c.hops
+  pub hops_are : AreJumpRows (game_of c.game) (game_of c.game).rules c.hops

@@ -6,7 +6,7 @@ use Rattle.legal_moves.specs.Glushkov.{IsNextAt, IsLast}
 use Rattle.legal_moves.specs.Configurations.{expressions_of}
 use Rattle.legal_moves.specs.declared.automaton.table.Table.{Table}
 use Rattle.legal_moves.specs.declared.automaton.jumps.Jump.{Jump}
-use Rattle.legal_moves.specs.declared.automaton.jumps.Row.{Row}
+use Rattle.legal_moves.specs.declared.automaton.jumps.JumpRow.{JumpRow}
 use Rattle.legal_moves.specs.declared.automaton.jumps.Jumps.{Jumps}
 
 -- the label of a shift; none for another action
@@ -39,7 +39,7 @@ AreMet game e p v n = (js : List Jump) × (length js ≤ n) × ((q u : ℕ) → 
 
 -- the row of p and v: the occurrences other than shifts that shifts lead to, each with its vertex, whether a word ends at a shift on the way,
 -- and how many numbers and vertices are met
-pub record IsRow (game : Game) (e : Regex) (p v : ℕ) (row : Row) : Type 0 where
+pub record IsRow (game : Game) (e : Regex) (p v : ℕ) (row : JumpRow) : Type 0 where
   pub only : (r u : ℕ) → IsAmong row.to.items r u → (q : ℕ) × Shifts game e p v q u × IsNextAt e q r
   pub all : (q u r : ℕ) → Shifts game e p v q u → IsNextAt e q r → label_in (action_at e 1 r) ≡ None → IsAmong row.to.items r u
   pub ends_only : row.ends ≡ true → (q u r w : ℕ) × Shifts game e p v q u × IsNextAt e q r × IsShiftTo game e r u w × IsLast e 1 r
@@ -47,14 +47,14 @@ pub record IsRow (game : Game) (e : Regex) (p v : ℕ) (row : Row) : Type 0 wher
   pub met_are : AreMet game e p v row.met
 
 -- if there are rows, there is one for each number and vertex
-pub record AreRows (game : Game) (e : Regex) (jumps : Jumps) : Type 0 where
+pub record AreJumpRows (game : Game) (e : Regex) (jumps : Jumps) : Type 0 where
   pub whole : 0 < length jumps.rows.items → length jumps.rows.items ≡ (count e + 1) * length game.vertices
-  pub each : (p v : ℕ) (row : Row) → v < length game.vertices → slice_get jumps.rows.items (p * length game.vertices + v) ≡ Some row
+  pub each : (p v : ℕ) (row : JumpRow) → v < length game.vertices → slice_get jumps.rows.items (p * length game.vertices + v) ≡ Some row
       → IsRow game e p v row
 
 -- the same, and if there are rows, no search of the expression is too wide
 pub record AreNarrowRows (game : Game) (e : Regex) (table : Table) (jumps : Jumps) : Type 0 where
-  pub rows_are : AreRows game e jumps
+  pub rows_are : AreJumpRows game e jumps
   pub narrow : 0 < length jumps.rows.items → table.narrow ≡ true
 
 -- the jumps of each table

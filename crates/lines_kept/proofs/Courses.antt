@@ -180,7 +180,7 @@ module _ {F Version : Type 0} (Stores : ℕ → Layout) (state : F → State) (I
 
   pub history_of : {told : List (List (Command × Reply))} {shown : Shown} → Uses Stores state IsVersion AreTwo IsUsedUp Lasts told shown
       → HasHistory told shown
-  history_of (Uses.made {is = is} honest created) = ([], refl, was_left (λ picture may. (is.capacity, created.now honest picture may)))
+  history_of (Uses.made {is = is} honest created) = ([], refl, was_left (λ image may. (is.capacity, created.now honest image may)))
   history_of (Uses.lines {uses = told} which begins new before found opened it stop from to) =
       let (sittings, same, history) = history_of before in
       let (sitting, is, its) = begun_stopped which begins it opened.is_open stop from to in

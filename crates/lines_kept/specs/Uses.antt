@@ -1,6 +1,6 @@
 -- What is done with the file of one table, by sessions of lines and by commands, with stops anywhere.
 use Rattle.std.specs.Prelude.{◌≡◌, ℕ, ◌≤◌, List, [], ◌∷◌, ◌++◌, Option, IsTrue, map}
-use Rattle.sector_disk.specs.Disk.{Disk, Picture, Shown, LeavesOnly, MayLeave}
+use Rattle.sector_disk.specs.Disk.{Disk, Image, Shown, LeavesOnly, MayLeave}
 use Rattle.game_file.specs.Calls.{IsAsked}
 use Rattle.game_file.specs.Kept.{Layout}
 use Rattle.game_file.specs.State.{State}
@@ -58,6 +58,6 @@ module _ {F Version : Type 0} (Stores : ℕ → Layout) (state : F → State)
 
 -- of whatever a stop leaves the headline holds, with sittings in which just these commands were answered, each with its
 -- reply; in each at most one more was begun
-abbrev pub HeadlineHolds : (ℕ → Layout) → List (List (Command × Reply)) → Picture → Type 0
-HeadlineHolds Stores uses picture =
-    (sittings : List Sitting) × (map (λ sitting. sitting.answered) sittings ≡ uses) × Headline Stores sittings picture
+abbrev pub HeadlineHolds : (ℕ → Layout) → List (List (Command × Reply)) → Image → Type 0
+HeadlineHolds Stores uses image =
+    (sittings : List Sitting) × (map (λ sitting. sitting.answered) sittings ≡ uses) × Headline Stores sittings image

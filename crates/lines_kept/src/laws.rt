@@ -1,6 +1,6 @@
 //! What holds of a file that sessions of lines have used, whatever stops came.
 ghost use Rattle.std.specs.Prelude.{◌≡◌, ◌≢◌, ◌⊎◌, IsTrue, ℕ, ◌≤◌, List, [], ◌∷◌, ◌++◌, Option};
-ghost use Rattle.sector_disk.specs.Disk.{Disk, Picture, Shown, MayLeave};
+ghost use Rattle.sector_disk.specs.Disk.{Disk, Image, Shown, MayLeave};
 ghost use Rattle.solver.specs.Histories.{IsFound};
 ghost use Rattle.solver.specs.Machine.{Command};
 ghost use Rattle.solver.specs.declared.replies.Reply.{Reply};
@@ -23,20 +23,20 @@ use solver::laws::the_headline;
 /// replies had begun, each with its reply. So each command of whose reply a byte was printed is in the table that is
 /// opened again, and of each session at most one command more.
 pub fn what_lines_told_is_kept<F: Versions>()
-    ensures { (told : List (List (Command × Reply))) (left : Shown) (picture : Picture)
-        → Uses F.stores F.state F.is_version F.are_two F.is_used_up F.lasts told left → MayLeave left picture
-        → HeadlineHolds F.stores told picture }
+    ensures { (told : List (List (Command × Reply))) (left : Shown) (image : Image)
+        → Uses F.stores F.state F.is_version F.are_two F.is_used_up F.lasts told left → MayLeave left image
+        → HeadlineHolds F.stores told image }
 {
     the_headline::<F>()
 }
 
 /// What lines told is kept, for the files that this program makes.
 pub fn what_our_lines_told_is_kept()
-    ensures { (told : List (List (Command × Reply))) (left : Shown) (picture : Picture)
+    ensures { (told : List (List (Command × Reply))) (left : Shown) (image : Image)
         → Uses ⟦<TableFile<FileDisk> as GameFile>⟧.stores ⟦<TableFile<FileDisk> as GameFile>⟧.state
         ⟦<TableFile<FileDisk> as Versions>⟧.is_version ⟦<TableFile<FileDisk> as Versions>⟧.are_two
         ⟦<TableFile<FileDisk> as Versions>⟧.is_used_up ⟦<TableFile<FileDisk> as GameFile>⟧.lasts told left
-        → MayLeave left picture → HeadlineHolds ⟦<TableFile<FileDisk> as GameFile>⟧.stores told picture }
+        → MayLeave left image → HeadlineHolds ⟦<TableFile<FileDisk> as GameFile>⟧.stores told image }
 {
     what_lines_told_is_kept::<TableFile<FileDisk>>()
 }

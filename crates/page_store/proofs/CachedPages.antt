@@ -5,7 +5,7 @@ use Rattle.std.proofs.lemmas.List.{get_or_past, get_or_default, get_or-set_other
 use Rattle.std.proofs.lemmas.Grind.{get_or-set_at}
 use Rattle.std.proofs.lemmas.Option.{same_Some}
 use Rattle.std.specs.Option.{IfSome}
-use Rattle.sector_disk.specs.Disk.{Picture, sector}
+use Rattle.sector_disk.specs.Disk.{Image, sector}
 use Rattle.page_store.specs.declared.marks.Mark.{Mark}
 use Rattle.page_store.specs.declared.marks.Mark.TheVariants.{Committed, Waiting, Fresh, Released, Free, Past}
 use Rattle.page_store.specs.declared.holds.Holders.{Holders}
@@ -258,7 +258,7 @@ module _ (old : Store) (was cache : PageCache) (Edits : List ℕ → List ℕ �
       (subst (λ (bs : List ℕ). StaysElsewhere from to edited.was bs) (sym at) edited.elsewhere)
 
   -- once all is on the disk it reads as it was edited
-  pub edited_reads : (new : Picture) → IsTrue old.disk.honest → HasSectors new page bytes → Edits (reads old page) (page_at new page)
+  pub edited_reads : (new : Image) → IsTrue old.disk.honest → HasSectors new page bytes → Edits (reads old page) (page_at new page)
   edited_reads new honest has =
       subst (λ (bs : List ℕ). Edits bs (page_at new page)) (held_reads old was of page edited.was edited.held honest)
       (subst (λ (bs : List ℕ). Edits edited.was bs) (sym at ∙ sectors_read new page bytes has) edited.edits)

@@ -4,7 +4,7 @@ use Rattle.std.proofs.Common.{Result, Ok, Err, OnOk}
 use Rattle.std.specs.Result.{is_err}
 use Rattle.std.proofs.lemmas.Bool.{cases_lt}
 use Rattle.std.proofs.lemmas.List.{get_or_append_left, get_or-append_right, get_or-take, get_or_past, length-take-le}
-use Rattle.sector_disk.specs.Disk.{Picture, sector, Shown, MayLeave, Disk, size, GoesOn, LeavesOnly, AllSynced, IsLonger, AgreesBelow}
+use Rattle.sector_disk.specs.Disk.{Image, sector, Shown, MayLeave, Disk, size, GoesOn, LeavesOnly, AllSynced, IsLonger, AgreesBelow}
 use Rattle.sector_disk.specs.lemmas.Moments.{leaves_more, leaves_then, longer_leaves, still_honest}
 use Rattle.root_pair.specs.Root.{HoldsRoot, root_of, IsAtRest, OldOrNew, IsPublished}
 use Rattle.root_pair.specs.lemmas.Rest.{below_holds, rest_leaves, rest_longer, root_longer, synced_rests}
@@ -124,11 +124,11 @@ cut_sound pages old new others of cut some room sound =
     }
 
 -- what a stop leaves of a disk that is made longer has the committed root and the pages that it may need
-pub below_saves : (store : Store) → IsSafe store → IsSoundStore store → (picture : Picture) → AgreesBelow store.disk.now picture → Saved store picture
-below_saves store safe sound picture left = record {
-  holds = subst (λ (r : List ℕ). HoldsRoot r picture) safe.root (below_holds store.disk.now safe.rest picture left);
+pub below_saves : (store : Store) → IsSafe store → IsSoundStore store → (image : Image) → AgreesBelow store.disk.now image → Saved store image
+below_saves store safe sound image left = record {
+  holds = subst (λ (r : List ℕ). HoldsRoot r image) safe.root (below_holds store.disk.now safe.rest image left);
   room = omega (arith, safe.room, left.no_shorter);
-  pages = λ p needed. page_same picture store.disk.now.contents p (λ k within.
+  pages = λ p needed. page_same image store.disk.now.contents p (λ k within.
       left.same k (omega (arith, sound.fits, needed.1, within.1)) (safe.synced p needed k within));
 }
 
@@ -230,25 +230,25 @@ grown_holds pages old new was now sound more marks long same =
 module _ (old : Store) (mid new : Disk) (root : List ℕ) (pages : ℕ) (sound : IsSoundStore old) (room : 8 * pages ≤ size mid)
     (longer : IsTrue old.disk.honest → IsLonger old.disk.now mid.now) (synced : IsTrue old.disk.honest → AllSynced mid.now) (goes_on : GoesOn old.disk mid)
     (later : GoesOn mid new) (moments : IsTrue old.disk.honest → LeavesOnly old.disk mid (AgreesBelow old.disk.now)) where
-  old_or_grown : IsTrue old.disk.honest → IsSafe old → (picture : Picture) → OldOrNew mid.now root picture → Saved old picture ⊎ SavedIn root pages old picture
-  old_or_grown honest safe picture (inl (holds, agrees)) = inl (record {
-    holds = subst (λ (r : List ℕ). HoldsRoot r picture) (root_longer (longer honest) safe.rest ∙ safe.root) holds;
+  old_or_grown : IsTrue old.disk.honest → IsSafe old → (image : Image) → OldOrNew mid.now root image → Saved old image ⊎ SavedIn root pages old image
+  old_or_grown honest safe image (inl (holds, agrees)) = inl (record {
+    holds = subst (λ (r : List ℕ). HoldsRoot r image) (root_longer (longer honest) safe.rest ∙ safe.root) holds;
     room = omega (arith, safe.room, (longer honest).lasting, agrees.no_shorter);
-    pages = λ p needed. page_same picture old.disk.now.contents p (λ k within.
+    pages = λ p needed. page_same image old.disk.now.contents p (λ k within.
         agrees.same k (omega (arith, needed.0, within.0), (synced honest).synced k)
         ∙ (longer honest).contents k (omega (arith, sound.fits, needed.1, within.1)));
   })
-  old_or_grown honest safe picture (inr (holds, agrees)) = inr (record {
+  old_or_grown honest safe image (inr (holds, agrees)) = inr (record {
     holds = holds;
     room = omega (arith, room, (synced honest).lasting, agrees.no_shorter);
-    pages = λ p there. page_same picture old.disk.now.contents p (λ k within.
+    pages = λ p there. page_same image old.disk.now.contents p (λ k within.
         agrees.same k (omega (arith, there.0, within.0)) ∙ (longer honest).contents k (omega (arith, sound.fits, there.1, within.1)));
   })
 
   pub grown_leaves : IsTrue old.disk.honest → IsSafe old → LeavesOnly mid new (OldOrNew mid.now root)
-      → LeavesOnly old.disk new (λ picture. Saved old picture ⊎ SavedIn root pages old picture)
+      → LeavesOnly old.disk new (λ image. Saved old image ⊎ SavedIn root pages old image)
   grown_leaves honest safe published = leaves_then later
-      (leaves_more (λ picture left. inl (below_saves old safe sound picture left)) (moments honest))
+      (leaves_more (λ image left. inl (below_saves old safe sound image left)) (moments honest))
       (leaves_more (old_or_grown honest safe) published)
 
   pub mid_rests : IsTrue old.disk.honest → IsSafe old → IsAtRest mid.now
@@ -258,12 +258,12 @@ module _ (old : Store) (mid new : Disk) (root : List ℕ) (pages : ℕ) (sound :
   grown_reads honest published p behind within = page_same new.now.contents old.disk.now.contents p (λ k inside.
       published.pages k (omega (arith, behind, inside.0)) ∙ (longer honest).contents k (omega (arith, sound.fits, within, inside.1)))
 
-  pub grown_after : IsTrue old.disk.honest → size new ≡ size mid → IsPublished root mid.now new.now → (picture : Picture)
-      → MayLeave new.now picture → SavedIn root pages old picture
-  grown_after honest same published picture left = record {
-    holds = subst (λ (r : List ℕ). HoldsRoot r picture) published.holds.is (rest_leaves new.now (synced_rests published.holds published.synced) picture left);
+  pub grown_after : IsTrue old.disk.honest → size new ≡ size mid → IsPublished root mid.now new.now → (image : Image)
+      → MayLeave new.now image → SavedIn root pages old image
+  grown_after honest same published image left = record {
+    holds = subst (λ (r : List ℕ). HoldsRoot r image) published.holds.is (rest_leaves new.now (synced_rests published.holds published.synced) image left);
     room = omega (arith, room, same, left.no_shorter, published.synced.lasting);
-    pages = λ p there. page_same picture new.now.contents p (λ k within. left.same k (published.synced.synced k))
+    pages = λ p there. page_same image new.now.contents p (λ k within. left.same k (published.synced.synced k))
         ∙ grown_reads honest published p there.0 there.1;
   }
 

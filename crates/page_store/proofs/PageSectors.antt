@@ -3,7 +3,7 @@ use Rattle.std.proofs.Common.{◌≡◌, ◌≢◌, inl, inr, ℕ, zero, suc, �
 use Rattle.std.proofs.lemmas.Bool.{cases_lt}
 use Rattle.std.proofs.lemmas.List.{take_all, take-take, drop-take, drop-append-le, take-append-le, drop_at, length-take-le}
 use Rattle.std.proofs.Math.Seq.{take-add}
-use Rattle.sector_disk.specs.Disk.{Picture, sector, Shown, Disk, MayLeave, Keeps, Steps, LeavesOnly}
+use Rattle.sector_disk.specs.Disk.{Image, sector, Shown, Disk, MayLeave, Keeps, Steps, LeavesOnly}
 use Rattle.sector_disk.specs.lemmas.Disk.{KeepsThroughout}
 use Rattle.sector_disk.specs.lemmas.Moments.{leaves_step, leaves_then, throughout_next, keeps_fewer}
 use Rattle.page_store.specs.Page.{joined, page, eighth, HasSectors, IsElsewhere, StaysElsewhere, IsWithin}
@@ -23,7 +23,7 @@ eighth_append k front back within =
     ∙ take-append-le 512 (drop (512 * k) front) back (omega (arith, length-drop (512 * k) front, within))
 
 -- one part more is read
-pub read_more : (old mid : Picture) (number n place : ℕ) (before after bytes : List ℕ) → place ≡ 8 * number + n → mid ≡ old
+pub read_more : (old mid : Image) (number n place : ℕ) (before after bytes : List ℕ) → place ≡ 8 * number + n → mid ≡ old
     → ((k : ℕ) → k < n → sector old (8 * number + k) ≡ eighth k before) → bytes ≡ sector mid place → length bytes ≡ 512
     → 512 * n ≤ length before → take (512 * (n + 1)) after ≡ take (512 * n) before ++ bytes → (k : ℕ) → k < n + 1
     → sector old (8 * number + k) ≡ eighth k after
@@ -36,7 +36,7 @@ read_more old mid number n place before after bytes at same so_far is long room 
       | inr late ↦
           let last : k ≡ n = omega (arith, late, below) in
           ap (λ (j : ℕ). sector old (8 * number + j)) last
-          ∙ ap (λ (p : Picture). sector p (8 * number + n)) (sym same)
+          ∙ ap (λ (p : Image). sector p (8 * number + n)) (sym same)
           ∙ ap (λ (j : ℕ). sector mid j) (sym at)
           ∙ sym is
           ∙ sym (whole (ap (λ (j : ℕ). eighth j (take (512 * n) before ++ bytes)) last
@@ -50,21 +50,21 @@ read_more old mid number n place before after bytes at same so_far is long room 
     whole is_so = sym (eighth_front k (512 * (n + 1)) after (omega (arith, below))) ∙ ap (eighth k) more ∙ is_so
 
 -- bytes that the sectors of a page have are what it reads as
-joined_parts : (picture : Picture) (number n : ℕ) (bytes : List ℕ) → n ≤ 8 → ((k : ℕ) → k < 8 → sector picture (8 * number + k) ≡ eighth k bytes)
-    → joined picture (8 * number) n ≡ take (512 * n) bytes
-joined_parts picture number zero bytes within each = joined-none picture (8 * number)
-joined_parts picture number (suc n) bytes within each =
+joined_parts : (image : Image) (number n : ℕ) (bytes : List ℕ) → n ≤ 8 → ((k : ℕ) → k < 8 → sector image (8 * number + k) ≡ eighth k bytes)
+    → joined image (8 * number) n ≡ take (512 * n) bytes
+joined_parts image number zero bytes within each = joined-none image (8 * number)
+joined_parts image number (suc n) bytes within each =
     let e : 512 * suc n ≡ 512 * n + 512 = omega arith in
-    joined-more picture (8 * number) n
-    ∙ (λ i. joined_parts picture number n bytes (omega (arith, within)) each i ++ each n (omega (arith, within)) i)
+    joined-more image (8 * number) n
+    ∙ (λ i. joined_parts image number n bytes (omega (arith, within)) each i ++ each n (omega (arith, within)) i)
     ∙ sym (take-add (512 * n) 512 bytes) ∙ ap (λ (m : ℕ). take m bytes) (sym e)
 
-pub sectors_read : (picture : Picture) (number : ℕ) (bytes : List ℕ) → HasSectors picture number bytes → bytes ≡ page picture number
-sectors_read picture number bytes has =
-    sym (take_all 4096 bytes (omega (arith, has.long))) ∙ sym (joined_parts picture number 8 bytes (omega arith) has.each)
+pub sectors_read : (image : Image) (number : ℕ) (bytes : List ℕ) → HasSectors image number bytes → bytes ≡ page image number
+sectors_read image number bytes has =
+    sym (take_all 4096 bytes (omega (arith, has.long))) ∙ sym (joined_parts image number 8 bytes (omega arith) has.each)
 
 -- sectors that are as they were have the same bytes
-pub sectors_same : (old new : Picture) (number : ℕ) (bytes : List ℕ) → ((k : ℕ) → IsWithin number k → sector new k ≡ sector old k)
+pub sectors_same : (old new : Image) (number : ℕ) (bytes : List ℕ) → ((k : ℕ) → IsWithin number k → sector new k ≡ sector old k)
     → HasSectors old number bytes → HasSectors new number bytes
 sectors_same old new number bytes same has = record {
   long = has.long;
@@ -77,7 +77,7 @@ pub still_leaves : (start here next : Disk) → IsTrue start.honest → LeavesOn
     → LeavesOnly start next (MayLeave start.now)
 still_leaves start here next honest so_far same same_2 step =
     leaves_then step.goes_on so_far
-    (leaves_step step (λ picture left. subst (λ s. MayLeave s picture) same left) (λ picture left. subst (λ s. MayLeave s picture) (same_2 ∙ same) left))
+    (leaves_step step (λ image left. subst (λ s. MayLeave s image) same left) (λ image left. subst (λ s. MayLeave s image) (same_2 ∙ same) left))
 
 -- one sector more is written: what lies outside the page stays
 pub writes_one : (number part k : ℕ) (start here next : Disk) → k ≡ 8 * number + part → part < 8 → IsTrue start.honest
@@ -122,6 +122,6 @@ pub all_meant : (from to : ℕ) → from ≡ 0 → to ≡ 4096 → (k : ℕ) →
 all_meant from to first last k elsewhere = none_elsewhere k (subst (λ (n : ℕ). IsElsewhere 0 n k) last (subst (λ (n : ℕ). IsElsewhere n to k) first elsewhere))
 
 -- a part that was not edited is still as its sector has it
-pub still_elsewhere : (picture : Picture) (number from to : ℕ) (was is : List ℕ) → HasSectors picture number was → StaysElsewhere from to was is
-    → (k : ℕ) → IsElsewhere from to k → sector picture (8 * number + k) ≡ eighth k is
-still_elsewhere picture number from to was is has stays k elsewhere = has.each k elsewhere.1 ∙ sym (stays k elsewhere)
+pub still_elsewhere : (image : Image) (number from to : ℕ) (was is : List ℕ) → HasSectors image number was → StaysElsewhere from to was is
+    → (k : ℕ) → IsElsewhere from to k → sector image (8 * number + k) ≡ eighth k is
+still_elsewhere image number from to was is has stays k elsewhere = has.each k elsewhere.1 ∙ sym (stays k elsewhere)

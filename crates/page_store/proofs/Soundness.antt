@@ -1,7 +1,7 @@
 -- A store stays sound through the calls of its disk.
 use Rattle.std.proofs.Common.{◌≡◌, ◌≢◌, ◌⊎◌, inl, inr, ℕ, ◌*◌, ◌%◌, ◌<◌, ◌≤◌, Bool, true, false, cond, List, length, slice_index, IsTrue, refl, sym, ◌∙◌, ap, subst, arith}
 use Rattle.std.proofs.lemmas.Bool.{cases_lt, cases_eq}
-use Rattle.sector_disk.specs.Disk.{Picture, sector, Shown, Agrees, MayLeave, Disk, size, GoesOn, LeavesOnly, Grew}
+use Rattle.sector_disk.specs.Disk.{Image, sector, Shown, Agrees, MayLeave, Disk, size, GoesOn, LeavesOnly, Grew}
 use Rattle.sector_disk.specs.lemmas.Disk.{KeepsThroughout}
 use Rattle.sector_disk.specs.lemmas.Moments.{leaves_more, leaves_now, goes_on_refl}
 use Rattle.root_pair.specs.Root.{picked, spare_by, HoldsRoot, root_of, IsAtRest, OldOrNew, IsPublished, PublishCause}
@@ -161,19 +161,19 @@ module _ (old new : Store) (at : ℕ) (sound : IsSoundStore old) (fresh : mark o
             keeps.synced k (apart p at k (not_needed old.marks p at fresh was) within) (safe.synced p was k within);
       }
 
-  saved : IsSafe old → (picture : Picture) → Agrees old.disk.now (λ k. IsOutside at k × IsTrue (old.disk.now.synced k)) picture → Saved old picture
-  saved safe picture left = record {
-    holds = subst (λ (r : List ℕ). HoldsRoot r picture) safe.root
-        (same_root old.disk.now picture safe.rest left.no_shorter
+  saved : IsSafe old → (image : Image) → Agrees old.disk.now (λ k. IsOutside at k × IsTrue (old.disk.now.synced k)) image → Saved old image
+  saved safe image left = record {
+    holds = subst (λ (r : List ℕ). HoldsRoot r image) safe.root
+        (same_root old.disk.now image safe.rest left.no_shorter
         (first 0 (omega arith))
         (ap (λ (s : List ℕ). slice_index s 0 % 2) (first 1 (omega arith)))
         (first (picked old.disk.now.contents) (omega arith)));
     room = omega (arith, safe.room, left.no_shorter);
-    pages = λ p needed. page_same picture old.disk.now.contents p
+    pages = λ p needed. page_same image old.disk.now.contents p
         (λ k within. left.same k (apart p at k (not_needed old.marks p at fresh needed) within, safe.synced p needed k within));
   }
     where
-      first : (k : ℕ) → k < 4 → sector picture k ≡ sector old.disk.now.contents k
+      first : (k : ℕ) → k < 4 → sector image k ≡ sector old.disk.now.contents k
       first k below = left.same k (low k below, safe.rest.synced k below)
 
   pub works_write : GoesOn old.disk new.disk → size new.disk ≡ size old.disk → old.failures ≤ new.failures
@@ -315,35 +315,35 @@ pub not_zero : (marks : List Mark) (p : ℕ) → mark marks 0 ≡ Committed → 
 not_zero marks p system other is = other (ap (λ (q : ℕ). mark marks q) (sym is) ∙ system)
 
 -- what a stop within `publish` leaves
-pub old_or_new : (old : Store) (root : List ℕ) → IsSafe old → (picture : Picture) → OldOrNew old.disk.now root picture
-    → Saved old picture ⊎ SavedAs root old picture
-old_or_new old root safe picture (inl (holds, agrees)) = inl (record {
-  holds = subst (λ (r : List ℕ). HoldsRoot r picture) safe.root holds;
+pub old_or_new : (old : Store) (root : List ℕ) → IsSafe old → (image : Image) → OldOrNew old.disk.now root image
+    → Saved old image ⊎ SavedAs root old image
+old_or_new old root safe image (inl (holds, agrees)) = inl (record {
+  holds = subst (λ (r : List ℕ). HoldsRoot r image) safe.root holds;
   room = omega (arith, safe.room, agrees.no_shorter);
-  pages = λ p needed. page_same picture old.disk.now.contents p (λ k within. agrees.same k (omega (arith, needed.0, within.0), safe.synced p needed k within));
+  pages = λ p needed. page_same image old.disk.now.contents p (λ k within. agrees.same k (omega (arith, needed.0, within.0), safe.synced p needed k within));
 })
-old_or_new old root safe picture (inr (holds, agrees)) = inr (record {
+old_or_new old root safe image (inr (holds, agrees)) = inr (record {
   holds = holds;
   room = omega (arith, safe.room, agrees.no_shorter);
-  pages = λ p behind. page_same picture old.disk.now.contents p (λ k within. agrees.same k (omega (arith, behind, within.0)));
+  pages = λ p behind. page_same image old.disk.now.contents p (λ k within. agrees.same k (omega (arith, behind, within.0)));
 })
 
 pub published_reads : (old new : Shown) (root : List ℕ) → IsPublished root old new → (p : ℕ) → 1 ≤ p → page new.contents p ≡ page old.contents p
 published_reads old new root published p behind = page_same new.contents old.contents p (λ k within. published.pages k (omega (arith, behind, within.0)))
 
 -- sectors after the slots that read the same make the same pages
-pub pages_kept : (old new : Picture) → ((k : ℕ) → 4 ≤ k → sector new k ≡ sector old k) → (p : ℕ) → 1 ≤ p → page new p ≡ page old p
+pub pages_kept : (old new : Image) → ((k : ℕ) → 4 ≤ k → sector new k ≡ sector old k) → (p : ℕ) → 1 ≤ p → page new p ≡ page old p
 pages_kept old new same p behind = page_same new old p (λ k within. same k (omega (arith, behind, within.0)))
 
 -- a stop after it leaves the new root and all pages
 pub published_leaves : (old : Store) (new : Shown) (root : List ℕ) → 8 * length old.marks ≤ length new.contents
-    → IsPublished root old.disk.now new → (picture : Picture) → MayLeave new picture
-    → SavedAs root old picture
-published_leaves old new root fits published picture left = record {
-  holds = subst (λ (r : List ℕ). HoldsRoot r picture) published.holds.is (rest_leaves new (synced_rests published.holds published.synced) picture left);
+    → IsPublished root old.disk.now new → (image : Image) → MayLeave new image
+    → SavedAs root old image
+published_leaves old new root fits published image left = record {
+  holds = subst (λ (r : List ℕ). HoldsRoot r image) published.holds.is (rest_leaves new (synced_rests published.holds published.synced) image left);
   room = omega (arith, fits, left.no_shorter, published.synced.lasting);
   pages = λ p behind.
-      page_same picture new.contents p (λ k within. left.same k (published.synced.synced k)) ∙ published_reads old.disk.now new root published p behind;
+      page_same image new.contents p (λ k within. left.same k (published.synced.synced k)) ∙ published_reads old.disk.now new root published p behind;
 }
 
 pub published_grew : (before now : ℕ) (fault : RootFault) → PublishCause before now fault → Grew before now

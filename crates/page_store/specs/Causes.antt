@@ -1,7 +1,7 @@
 -- Why a call answers a fault.
 use Rattle.std.specs.Prelude.{◌≡◌, ◌⊎◌, ℕ, ◌≤◌, true, length, IsTrue}
 use Rattle.sector_disk.specs.Disk.{Disk, Grew}
-use Rattle.root_pair.specs.Root.{IsTablePicture}
+use Rattle.root_pair.specs.Root.{IsTableImage}
 use Rattle.page_store.specs.declared.fault.PageFault.{PageFault}
 use Rattle.page_store.specs.declared.fault.PageFault.TheVariants.{Disk as DiskFailed, NotATable, Damaged, TableFull, OutOfMemory, Closed}
 use Rattle.page_store.specs.declared.marks.Mark.TheVariants.{Waiting}
@@ -11,7 +11,7 @@ use Rattle.page_store.specs.Store.{Store, IsLengthened, IsUnchanged}
 -- `open`: the disk failed, it holds no table, or memory is short
 abbrev pub StoreOpenCause : Disk → ℕ → ℕ → PageFault → Type 0
 StoreOpenCause disk before now DiskFailed = Grew before now
-StoreOpenCause disk before now NotATable = IsTrue disk.honest → ¬ IsTablePicture disk.now.contents
+StoreOpenCause disk before now NotATable = IsTrue disk.honest → ¬ IsTableImage disk.now.contents
 StoreOpenCause disk before now OutOfMemory = Unit {0}
 StoreOpenCause disk before now _ = ⊥
 

@@ -1,7 +1,7 @@
 -- What pages spell for a layer above. `Spelt bytes` says that pages with these bytes, read from some root on, spell it;
 -- `named` are the pages that are reached from that root.
 use Rattle.std.specs.Prelude.{◌≡◌, ◌⊎◌, ℕ, ◌*◌, ◌≤◌, List, length, IsTrue}
-use Rattle.sector_disk.specs.Disk.{Picture, LeavesOnly}
+use Rattle.sector_disk.specs.Disk.{Image, LeavesOnly}
 use Rattle.root_pair.specs.Root.{HoldsRoot}
 use Rattle.page_store.specs.declared.holds.HoldPlace.{HoldPlace}
 use Rattle.page_store.specs.Marks.{mark, rests, IsNeeded, IsKept}
@@ -22,18 +22,18 @@ pub record IsPrepared (named : ℕ → Type 0) (Spelt : (ℕ → List ℕ) → T
   pub spelled : SpelledBy named (reads store) Spelt
   pub kept : (p : ℕ) → named p → IsKept store.marks p
 
--- the picture has this root and room for this many pages, and its pages spell it
-pub record Spells (root : List ℕ) (capacity : ℕ) (Spelt : (ℕ → List ℕ) → Type 0) (picture : Picture) : Type 0 where
-  pub holds : HoldsRoot root picture
-  pub room : 8 * capacity ≤ length picture
-  pub spelt : Spelt (page picture)
+-- the image has this root and room for this many pages, and its pages spell it
+pub record Spells (root : List ℕ) (capacity : ℕ) (Spelt : (ℕ → List ℕ) → Type 0) (image : Image) : Type 0 where
+  pub holds : HoldsRoot root image
+  pub room : 8 * capacity ≤ length image
+  pub spelt : Spelt (page image)
 
 -- work from `old` to `mid` and a commit of this root from there to `new`: a stop since `old` leaves what stood there or
 -- what was prepared in `mid`; after Ok that stands, and after a refusal that left the store as it was the old still does
 pub record IsCarried (root : List ℕ) (was_named : ℕ → Type 0) (Was : (ℕ → List ℕ) → Type 0) (named : ℕ → Type 0) (Is : (ℕ → List ℕ)
     → Type 0) (old mid new : Store) : Type 0 where
-  pub stop : LeavesOnly old.disk new.disk (λ picture. Spells old.root (length old.marks) Was picture
-      ⊎ Spells root (length old.marks) Is picture)
+  pub stop : LeavesOnly old.disk new.disk (λ image. Spells old.root (length old.marks) Was image
+      ⊎ Spells root (length old.marks) Is image)
   pub done : IsCommitted root mid new → Stands named Is new
   pub left : IsUnchanged mid new → Stands was_named Was new
   pub left_stop : IsUnchanged mid new → LeavesOnly old.disk new.disk (Spells old.root (length old.marks) Was)
@@ -42,7 +42,7 @@ pub record IsCarried (root : List ℕ) (was_named : ℕ → Type 0) (Was : (ℕ 
 -- under the new one with room for this many pages; it stands in `new`, after Ok and after a refusal that left the store open, and
 -- such a refusal leaves it under the old root
 pub record IsCarriedGrown (root : List ℕ) (pages : ℕ) (named : ℕ → Type 0) (Spelt : (ℕ → List ℕ) → Type 0) (old new : Store) : Type 0 where
-  pub stop : LeavesOnly old.disk new.disk (λ picture. Spells old.root (length old.marks) Spelt picture ⊎ Spells root pages Spelt picture)
+  pub stop : LeavesOnly old.disk new.disk (λ image. Spells old.root (length old.marks) Spelt image ⊎ Spells root pages Spelt image)
   pub done : IsStoreGrown root pages old new → Stands named Spelt new
   pub left : IsLengthened old new → Stands named Spelt new
   pub left_stop : IsLengthened old new → LeavesOnly old.disk new.disk (Spells old.root (length old.marks) Spelt)

@@ -1,6 +1,6 @@
 -- What is stated of a store of pages, and what a stop within a call leaves.
 use Rattle.std.specs.Prelude.{◌≡◌, ◌⊎◌, ℕ, ◌*◌, ◌/◌, ◌<◌, ◌≤◌, min, Bool, true, false, List, length, IsTrue}
-use Rattle.sector_disk.specs.Disk.{Picture, Disk, size, sector, GoesOn, Grew, IsLonger, LeavesOnly, MayLeave, SyncedMore}
+use Rattle.sector_disk.specs.Disk.{Image, Disk, size, sector, GoesOn, Grew, IsLonger, LeavesOnly, MayLeave, SyncedMore}
 use Rattle.root_pair.specs.Root.{HoldsRoot, root_of, IsAtRest}
 use Rattle.page_store.specs.declared.marks.Mark.{Mark}
 use Rattle.page_store.specs.declared.marks.Mark.TheVariants.{Committed, Waiting}
@@ -37,27 +37,27 @@ reads store p = page store.disk.now.contents p
 abbrev pub IsHeldBy : HoldPlace → Store → ℕ → Type 0
 IsHeldBy place store p = (1 ≤ p) × IsTrue (needed_by (holders_at store.holds.of p) place)
 
--- the picture has this root, room for this many pages, and these pages with these bytes
-pub record HasPages (root : List ℕ) (capacity : ℕ) (needed : ℕ → Type 0) (bytes : ℕ → List ℕ) (picture : Picture) : Type 0 where
-  pub holds : HoldsRoot root picture
-  pub room : 8 * capacity ≤ length picture
-  pub pages : (p : ℕ) → needed p → page picture p ≡ bytes p
+-- the image has this root, room for this many pages, and these pages with these bytes
+pub record HasPages (root : List ℕ) (capacity : ℕ) (needed : ℕ → Type 0) (bytes : ℕ → List ℕ) (image : Image) : Type 0 where
+  pub holds : HoldsRoot root image
+  pub room : 8 * capacity ≤ length image
+  pub pages : (p : ℕ) → needed p → page image p ≡ bytes p
 
--- the picture has the committed root and the pages that it may need
-abbrev pub Saved : Store → Picture → Type 0
+-- the image has the committed root and the pages that it may need
+abbrev pub Saved : Store → Image → Type 0
 Saved store = HasPages store.root (length store.marks) (IsNeeded store.marks) (reads store)
 
--- the picture has this root in its place, and all pages as they read
-abbrev pub SavedAs : List ℕ → Store → Picture → Type 0
+-- the image has this root in its place, and all pages as they read
+abbrev pub SavedAs : List ℕ → Store → Image → Type 0
 SavedAs root store = HasPages root (length store.marks) (λ p. 1 ≤ p) (reads store)
 
--- the picture has this root in its place, room for this many pages, and each page of the store as it reads
-abbrev pub SavedIn : List ℕ → ℕ → Store → Picture → Type 0
+-- the image has this root in its place, room for this many pages, and each page of the store as it reads
+abbrev pub SavedIn : List ℕ → ℕ → Store → Image → Type 0
 SavedIn root pages store = HasPages root pages (λ p. (1 ≤ p) × (p < length store.marks)) (reads store)
 
--- a stop now leaves such a picture
-abbrev pub StopLeaves : Store → (Picture → Type 0) → Type 0
-StopLeaves store Such = (picture : Picture) → MayLeave store.disk.now picture → Such picture
+-- a stop now leaves such an image
+abbrev pub StopLeaves : Store → (Image → Type 0) → Type 0
+StopLeaves store Such = (image : Image) → MayLeave store.disk.now image → Such image
 
 -- a stop leaves the committed root and the pages that it may need
 pub record IsSafe (store : Store) : Type 0 where
@@ -151,7 +151,7 @@ pub record Commits (root : List ℕ) (old new : Store) : Type 0 where
   pub goes_on : GoesOn old.disk new.disk
   pub same_size : size new.disk ≡ size old.disk
   pub failures : old.failures ≤ new.failures
-  pub leaves : IsTrue old.disk.honest → IsSafe old → LeavesOnly old.disk new.disk (λ picture. Saved old picture ⊎ SavedAs root old picture)
+  pub leaves : IsTrue old.disk.honest → IsSafe old → LeavesOnly old.disk new.disk (λ image. Saved old image ⊎ SavedAs root old image)
   pub closes : StoreCloses old new
   pub holds : new.holds ≡ old.holds
   pub held : IsTrue old.disk.honest → (place : HoldPlace) (p : ℕ) → IsHeldBy place old p → reads new p ≡ reads old p
@@ -182,7 +182,7 @@ pub record StoreGrows (root : List ℕ) (pages : ℕ) (old new : Store) : Type 0
   pub goes_on : GoesOn old.disk new.disk
   pub no_shorter : size old.disk ≤ size new.disk
   pub failures : old.failures ≤ new.failures
-  pub leaves : IsTrue old.disk.honest → IsSafe old → LeavesOnly old.disk new.disk (λ picture. Saved old picture ⊎ SavedIn root pages old picture)
+  pub leaves : IsTrue old.disk.honest → IsSafe old → LeavesOnly old.disk new.disk (λ image. Saved old image ⊎ SavedIn root pages old image)
   pub closes : StoreCloses old new
   pub no_fewer : length old.marks ≤ length new.marks
   pub holds : SameHolds old.holds new.holds

@@ -83,13 +83,13 @@ pub fn hold_stands<S: Spelling>()
         → Stands S.named S.spelt old → StandsHeld place S.named S.spelt new }
 {}
 
-/// Another hold is taken: what a hold needs stands.
+/// Taking a second hold leaves what the first pins.
 pub fn hold_stands_held<S: Spelling>()
     ensures { (place other : HoldPlace) (old new : Store) → IsSoundStore old → place ≢ other → IsHoldTaken place old new
         → StandsHeld other S.named S.spelt old → StandsHeld other S.named S.spelt new }
 {}
 
-/// A call that commits nothing keeps what a hold needs, `discard` too.
+/// A call that commits nothing leaves what a hold pins, and so does `discard`.
 pub fn works_stands_held<S: Spelling>()
     ensures { (place : HoldPlace) (old new : Store) → IsTrue old.disk.honest → StoreWorks old new
         → StandsHeld place S.named S.spelt old → StandsHeld place S.named S.spelt new }

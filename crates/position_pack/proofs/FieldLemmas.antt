@@ -15,7 +15,7 @@ use Rattle.rbg_game.specs.declared.position.Position.{Position}
 use Rattle.position_pack.specs.Shape.{Shape, IsSmall, Fits}
 use Rattle.position_pack.specs.Fields.{role_code, fields_of}
 use Rattle.position_pack.specs.Bits.{width, bits_of, greatest_of, field_bits, bytes_of_bits, bytes_by_bits}
-use Rattle.position_pack.specs.lemmas.Bits.{AreAtMost}
+use Rattle.position_pack.specs.lemmas.Bits.{AreFieldsAtMost}
 use Rattle.position_pack.proofs.OrderLemmas.{cmp_parts, fields_tell, compared_equal, equal_compared}
 use Rattle.position_pack.proofs.BitLemmas.{length-bits, bits_cmp, fits_width}
 use Rattle.position_pack.proofs.ByteLemmas.{AreBits, bits_append, are_bits, all_bits, padded, zeros_behind, low_made, length-bytes_from, bytes_cmp}
@@ -34,7 +34,7 @@ length-fields (most ∷ greatest) (x ∷ fields) e =
     let one : length (bits_of (width most) x) ≡ width most = length-bits (width most) x in
     length-append (bits_of (width most) x) (field_bits greatest fields) ∙ (let s = sum_by-cons width most greatest in omega (arith, rest, one, s))
 
-pub within_as_many : (greatest fields : List ℕ) → AreAtMost greatest fields → length greatest ≡ length fields
+pub within_as_many : (greatest fields : List ℕ) → AreFieldsAtMost greatest fields → length greatest ≡ length fields
 within_as_many [] [] h = refl
 within_as_many [] (x ∷ fields) h = absurd h
 within_as_many (most ∷ greatest) [] h = absurd h
@@ -49,7 +49,7 @@ room : (x most : ℕ) → x ≤ most → most < 2 ^ 32 → x < 2 ^ width most
 room x most le small = let most_fits : most < 2 ^ width most = fits_width most small in omega (arith, le, most_fits)
 
 -- the bits of fields compare as the fields
-pub fields_cmp : (greatest xs ys : List ℕ) → AreWords greatest → AreAtMost greatest xs → AreAtMost greatest ys
+pub fields_cmp : (greatest xs ys : List ℕ) → AreWords greatest → AreFieldsAtMost greatest xs → AreFieldsAtMost greatest ys
     → slice_cmp nat_cmp (field_bits greatest xs) (field_bits greatest ys) ≡ slice_cmp nat_cmp xs ys
 fields_cmp [] [] [] low hx hy = refl
 fields_cmp [] (x ∷ xs) ys low hx hy = absurd hx
@@ -65,19 +65,19 @@ fields_cmp (most ∷ greatest) (x ∷ xs) (y ∷ ys) low hx hy =
 
 -- ---- the fields of a position
 
-pub within_append : (gs bs xs ys : List ℕ) → AreAtMost gs xs → AreAtMost bs ys → AreAtMost (gs ++ bs) (xs ++ ys)
+pub within_append : (gs bs xs ys : List ℕ) → AreFieldsAtMost gs xs → AreFieldsAtMost bs ys → AreFieldsAtMost (gs ++ bs) (xs ++ ys)
 within_append [] bs [] ys h k = k
 within_append [] bs (x ∷ xs) ys h k = absurd h
 within_append (a ∷ gs) bs [] ys h k = absurd h
 within_append (a ∷ gs) bs (x ∷ xs) ys h k = (h.0, within_append gs bs xs ys h.1 k)
 
-pub within_all : (n most : ℕ) (xs : List ℕ) → length xs ≡ n → ((k : ℕ) → k < n → get_or xs k 0 ≤ most) → AreAtMost (replicate n most) xs
+pub within_all : (n most : ℕ) (xs : List ℕ) → length xs ≡ n → ((k : ℕ) → k < n → get_or xs k 0 ≤ most) → AreFieldsAtMost (replicate n most) xs
 within_all zero most [] e h = tt
 within_all zero most (x ∷ xs) e h = absurd (omega (arith, e))
 within_all (suc n) most [] e h = absurd (omega (arith, e))
 within_all (suc n) most (x ∷ xs) e h = (h 0 (omega arith), within_all n most xs (omega (arith, e)) (λ k lt. h (suc k) (omega (arith, lt))))
 
-pub within_each : (bounds xs : List ℕ) → length xs ≡ length bounds → ((k : ℕ) → k < length xs → get_or xs k 0 ≤ get_or bounds k 0) → AreAtMost bounds xs
+pub within_each : (bounds xs : List ℕ) → length xs ≡ length bounds → ((k : ℕ) → k < length xs → get_or xs k 0 ≤ get_or bounds k 0) → AreFieldsAtMost bounds xs
 within_each [] [] e h = tt
 within_each [] (x ∷ xs) e h = absurd (omega (arith, e))
 within_each (b ∷ bounds) [] e h = absurd (omega (arith, e))
@@ -88,7 +88,7 @@ low_role Keeper = omega arith
 low_role (Player First) = omega arith
 low_role (Player Second) = omega arith
 
-pub fields_within : (shape : Shape) (at : Position) → Fits shape at → AreAtMost (greatest_of shape) (fields_of at)
+pub fields_within : (shape : Shape) (at : Position) → Fits shape at → AreFieldsAtMost (greatest_of shape) (fields_of at)
 fields_within shape at fits =
     within_append (replicate shape.vertices (shape.pieces - 1) ++ shape.bounds) _ (at.state.pieces.items ++ at.state.values.items) _
     (within_append (replicate shape.vertices (shape.pieces - 1)) shape.bounds at.state.pieces.items at.state.values.items

@@ -5,7 +5,7 @@ use Rattle.std.specs.List.{flat_map}
 use Rattle.std.proofs.lemmas.List.Concat.{flat_map-cons}
 use Rattle.std.proofs.lemmas.List.{flat_map_more, length_push, map_push}
 use Rattle.position_pack.specs.Texts.{with_commas}
-use Rattle.position_pack.specs.lemmas.Spelled.{IsSplitAt, IsWritten, AreWrittenWithCommas}
+use Rattle.position_pack.specs.lemmas.Spelled.{IsSplitAt, IsSpelledBy, AreWrittenWithCommas}
 use Rattle.position_pack.proofs.TellLemmas.{Lacks, lacks, before, commas}
 use Rattle.position_pack.proofs.WordLemmas.{not_cut}
 use Rattle.position_pack.proofs.ValueBytes.{one_more}
@@ -74,7 +74,7 @@ module _ (f : ℕ → List ℕ) (Allowed : ℕ → ℕ → Type 0) (count : ℕ)
       (sym cut.text_is ∙ so_far.others ys are ∙ from_here f ys i (omega (arith, lt, are.as_many)))
 
   pub no_item : (i : ℕ) (xs rest word back : List ℕ) → HasNoComma f Allowed count → IsReadTo f Allowed count text i xs rest → suc i < count
-      → IsSplitAt 44 rest word back → ((x : ℕ) → IsWritten f (Allowed i) word x → ⊥) → (ys : List ℕ) → AreWrittenWithCommas f Allowed count text ys → ⊥
+      → IsSplitAt 44 rest word back → ((x : ℕ) → IsSpelledBy f (Allowed i) word x → ⊥) → (ys : List ℕ) → AreWrittenWithCommas f Allowed count text ys → ⊥
   no_item i xs rest word back plain so_far lt cut none ys are =
       none (get_or ys i 0) record {
         allowed = are.allowed i (omega (arith, lt));
@@ -82,7 +82,7 @@ module _ (f : ℕ → List ℕ) (Allowed : ℕ → ℕ → Type 0) (count : ℕ)
       }
 
   pub item_read : (i x : ℕ) (xs zs rest word back : List ℕ) → HasNoComma f Allowed count → IsReadTo f Allowed count text i xs rest
-      → suc i < count → IsSplitAt 44 rest word back → IsWritten f (Allowed i) word x → zs ≡ xs ++ x ∷ [] → IsReadTo f Allowed count text (i + 1) zs back
+      → suc i < count → IsSplitAt 44 rest word back → IsSpelledBy f (Allowed i) word x → zs ≡ xs ++ x ∷ [] → IsReadTo f Allowed count text (i + 1) zs back
   item_read i x xs zs rest word back plain so_far lt cut is more = record {
     as_many = ap length more ∙ length_push xs x ∙ ap (λ n. n + 1) so_far.as_many;
     allowed = one_more Allowed xs x i zs so_far.as_many more so_far.allowed is.allowed;
@@ -95,7 +95,7 @@ module _ (f : ℕ → List ℕ) (Allowed : ℕ → ℕ → Type 0) (count : ℕ)
 
   -- the last place may be named by another term
   pub no_last : (i last : ℕ) (xs rest : List ℕ) → IsReadTo f Allowed count text i xs rest → i ≡ last → last + 1 ≡ count
-      → ((x : ℕ) → IsWritten f (Allowed last) rest x → ⊥) → (ys : List ℕ) → AreWrittenWithCommas f Allowed count text ys → ⊥
+      → ((x : ℕ) → IsSpelledBy f (Allowed last) rest x → ⊥) → (ys : List ℕ) → AreWrittenWithCommas f Allowed count text ys → ⊥
   no_last i last xs rest so_far here e none ys are =
       none (get_or ys last 0) record {
         allowed = are.allowed last (omega (arith, e));
@@ -103,7 +103,7 @@ module _ (f : ℕ → List ℕ) (Allowed : ℕ → ℕ → Type 0) (count : ℕ)
       }
 
   pub all_read : (i last x : ℕ) (xs zs rest : List ℕ) → IsReadTo f Allowed count text i xs rest → i ≡ last → last + 1 ≡ count
-      → IsWritten f (Allowed last) rest x → zs ≡ xs ++ x ∷ [] → AreWrittenWithCommas f Allowed count text zs
+      → IsSpelledBy f (Allowed last) rest x → zs ≡ xs ++ x ∷ [] → AreWrittenWithCommas f Allowed count text zs
   all_read i last x xs zs rest so_far here e is more = record {
     as_many = ap length more ∙ length_push xs x ∙ ap (λ n. n + 1) (so_far.as_many ∙ here) ∙ e;
     allowed = λ k lt. one_more Allowed xs x last zs (so_far.as_many ∙ here) more

@@ -11,7 +11,7 @@ use Rattle.rbg_game.specs.declared.position.Position.{Position}
 use Rattle.position_pack.specs.Shape.{Shape, IsSmall, Fits}
 use Rattle.position_pack.specs.Fields.{fields_of}
 use Rattle.position_pack.specs.Bits.{width, bits_of, greatest_of, field_bits, bytes_by_bits, number_at, field_at}
-use Rattle.position_pack.specs.lemmas.Bits.{AreAtMost}
+use Rattle.position_pack.specs.lemmas.Bits.{AreFieldsAtMost}
 use Rattle.position_pack.proofs.BitLemmas.{length-bits, fits_width, double}
 use Rattle.position_pack.proofs.ByteLemmas.{all_bits, length-all_bits, padded, zeros_behind}
 use Rattle.position_pack.proofs.FieldLemmas.{fields_are_bits, fields_within, greatest_words, AreWords}
@@ -30,7 +30,7 @@ drop_behind (x ∷ xs) ys n =
     ap (λ k. drop k (x ∷ (xs ++ ys))) next ∙ drop_behind xs ys n
 
 -- a field among the bits of all
-field_there : (greatest xs zs : List ℕ) (k : ℕ) → AreAtMost greatest xs → k < length xs
+field_there : (greatest xs zs : List ℕ) (k : ℕ) → AreFieldsAtMost greatest xs → k < length xs
     → take (width (get_or greatest k 0)) (drop (sum_by width (take k greatest)) (field_bits greatest xs ++ zs)) ≡ bits_of
     (width (get_or greatest k 0)) (get_or xs k 0)
 field_there [] [] zs k h lt = absurd (omega (arith, lt))
@@ -51,7 +51,7 @@ field_there (m ∷ greatest) (x ∷ xs) zs (suc k) h lt =
     ∙ ap (take w) (drop_behind (bits_of (width m) x) (field_bits greatest xs ++ zs) (sum_by width (take k greatest)))
     ∙ field_there greatest xs zs k h.1 (omega (arith, lt))
 
-field_low : (greatest xs : List ℕ) (k : ℕ) → AreWords greatest → AreAtMost greatest xs → k < length xs → get_or xs k 0 < 2 ^ width (get_or greatest k 0)
+field_low : (greatest xs : List ℕ) (k : ℕ) → AreWords greatest → AreFieldsAtMost greatest xs → k < length xs → get_or xs k 0 < 2 ^ width (get_or greatest k 0)
 field_low [] [] k word h lt = absurd (omega (arith, lt))
 field_low [] (x ∷ xs) k word h lt = absurd h
 field_low (m ∷ greatest) [] k word h lt = absurd h

@@ -13,24 +13,24 @@ use Rattle.position_pack.specs.Shape.{Shape, IsSmall, Fits}
 use Rattle.position_pack.specs.Fields.{role_code, fields_of}
 use Rattle.position_pack.specs.Bits.{width, greatest_of}
 use Rattle.position_pack.specs.Packings.{IsPacked}
-use Rattle.position_pack.specs.lemmas.Bits.{AreAtMost, AreFields, AreInRange, IsFieldsOf}
+use Rattle.position_pack.specs.lemmas.Bits.{AreFieldsAtMost, AreFields, AreInRange, IsFieldsOf}
 use Rattle.position_pack.proofs.BitLemmas.{width_least}
 use Rattle.position_pack.proofs.FieldLemmas.{within_as_many, fields_within, length-greatest}
 
-within_split : (gs bs xs ys : List ℕ) → length gs ≡ length xs → AreAtMost (gs ++ bs) (xs ++ ys) → AreAtMost gs xs × AreAtMost bs ys
+within_split : (gs bs xs ys : List ℕ) → length gs ≡ length xs → AreFieldsAtMost (gs ++ bs) (xs ++ ys) → AreFieldsAtMost gs xs × AreFieldsAtMost bs ys
 within_split [] bs [] ys e h = (tt, h)
 within_split [] bs (x ∷ xs) ys e h = absurd (omega (arith, e))
 within_split (g ∷ gs) bs [] ys e h = absurd (omega (arith, e))
 within_split (g ∷ gs) bs (x ∷ xs) ys e h = let rest = within_split gs bs xs ys (omega (arith, e)) h.1 in ((h.0, rest.0), rest.1)
 
-within_at : (gs xs : List ℕ) (k : ℕ) → AreAtMost gs xs → get_or xs k 0 ≤ get_or gs k 0
+within_at : (gs xs : List ℕ) (k : ℕ) → AreFieldsAtMost gs xs → get_or xs k 0 ≤ get_or gs k 0
 within_at [] [] k h = omega arith
 within_at [] (x ∷ xs) k h = absurd h
 within_at (g ∷ gs) [] k h = absurd h
 within_at (g ∷ gs) (x ∷ xs) zero h = h.0
 within_at (g ∷ gs) (x ∷ xs) (suc k) h = within_at gs xs k h.1
 
-all_within : (n pieces : ℕ) (xs : List ℕ) → 0 < pieces → AreAtMost (replicate n (pieces - 1)) xs → All (λ x. x < pieces) xs
+all_within : (n pieces : ℕ) (xs : List ℕ) → 0 < pieces → AreFieldsAtMost (replicate n (pieces - 1)) xs → All (λ x. x < pieces) xs
 all_within zero pieces [] some h = λ k d lt. absurd (omega (arith, lt))
 all_within zero pieces (x ∷ xs) some h = absurd h
 all_within (suc n) pieces [] some h = absurd h
@@ -42,7 +42,7 @@ all_within (suc n) pieces (x ∷ xs) some h = more (omega (arith, h.0, some)) (a
 
 -- a position whose fields are within their greatest values
 fits_of : (shape : Shape) (at : Position) → 0 < shape.pieces → 0 < shape.vertices → length at.state.pieces.items ≡ shape.vertices
-    → AreAtMost (greatest_of shape) (fields_of at) → Fits shape at
+    → AreFieldsAtMost (greatest_of shape) (fields_of at) → Fits shape at
 fits_of shape at some_pieces some_vertices many within =
     let front = replicate shape.vertices (shape.pieces - 1) in
     let all = within_as_many (greatest_of shape) (fields_of at) within in
@@ -77,7 +77,7 @@ at_back (x ∷ xs) ys zero k e = absurd (omega (arith, e))
 at_back (x ∷ xs) ys (suc n) k e = at_back xs ys n k (omega (arith, e))
 
 -- the fields have room in the types of a position
-pub few_fields : (shape : Shape) (fields : List ℕ) → IsSmall shape → AreAtMost (greatest_of shape) fields → AreInRange shape.vertices fields
+pub few_fields : (shape : Shape) (fields : List ℕ) → IsSmall shape → AreFieldsAtMost (greatest_of shape) fields → AreInRange shape.vertices fields
 few_fields shape fields small within =
     let front = replicate shape.vertices (shape.pieces - 1) in
     let last = (shape.vertices - 1) ∷ 2 ∷ shape.actions ∷ [] in

@@ -4,7 +4,7 @@ use Rattle.std.specs.List.{sum_by}
 use Rattle.std.proofs.lemmas.List.{length-append, length-replicate, drop_more}
 use Rattle.std.proofs.lemmas.List.Sums.{sum_by-cons}
 use Rattle.position_pack.specs.Bits.{width, bits_of, field_bits}
-use Rattle.position_pack.specs.lemmas.Bits.{AreAtMost, AreFields}
+use Rattle.position_pack.specs.lemmas.Bits.{AreFieldsAtMost, AreFields}
 use Rattle.position_pack.proofs.OrderLemmas.{same_front}
 use Rattle.position_pack.proofs.BitLemmas.{length-bits, bits_tell, bits-zero, fits_width}
 use Rattle.position_pack.proofs.ByteLemmas.{all_bits, length-all_bits, low_bytes, padded, unpadded, zeros_behind}
@@ -13,7 +13,7 @@ use Rattle.position_pack.proofs.ShiftLemmas.{power_positive}
 
 -- the bits are those of the fields, which are within their greatest values, and then others
 pub record AreBehind (greatest bits xs zs : List ℕ) : Type 0 where
-  pub within : AreAtMost greatest xs
+  pub within : AreFieldsAtMost greatest xs
   pub bits_are : field_bits greatest xs ++ zs ≡ bits
 
 -- one more field is put

@@ -30,8 +30,8 @@ fn calls_in_trouble(alloc: Global, trouble: Trouble) -> anyhow::Result<Option<u6
     let mut so_far = 0;
     for call in 0..MOST_CALLS {
         let (left, growth) = done_in_trouble(alloc, trouble, call)?;
-        let pictures = telling(alloc, &left)?;
-        let is_new = growth.done != so_far || pictures.as_slice() != asked.as_slice();
+        let images = telling(alloc, &left)?;
+        let is_new = growth.done != so_far || images.as_slice() != asked.as_slice();
         if is_new && !is_left(alloc, &left, growth)? {
             return Ok(None);
         }
@@ -41,7 +41,7 @@ fn calls_in_trouble(alloc: Global, trouble: Trouble) -> anyhow::Result<Option<u6
             None | Some(PageFault::Disk) => {}
             Some(_) => return Ok(None),
         }
-        asked = pictures;
+        asked = images;
         so_far = growth.done;
     }
     Ok(None)
@@ -63,7 +63,7 @@ fn done_in_trouble(
     Ok((flaky.into_inner(), growth))
 }
 
-/// Whether each stop now leaves what the commits lead to that were answered, or what one more leads to. Of the pictures that a stop may
+/// Whether each stop now leaves what the commits lead to that were answered, or what one more leads to. Of the images that a stop may
 /// leave, 256 lose the end of a disk that was made longer and three tell how it is kept.
 fn is_left(alloc: Global, left: &MemDisk, growth: Growth) -> anyhow::Result<bool> {
     let end = if growth.refused.is_some() { 2 } else { 1 };
@@ -72,7 +72,7 @@ fn is_left(alloc: Global, left: &MemDisk, growth: Growth) -> anyhow::Result<bool
     Ok(first_are_left(alloc, left, &allowed)? && telling_are_left(alloc, left, &allowed)?)
 }
 
-/// Whether one of these is found on each of the first 256 pictures.
+/// Whether one of these is found on each of the first 256 images.
 fn first_are_left(alloc: Global, left: &MemDisk, allowed: &[(u8, u8)]) -> anyhow::Result<bool> {
     for pick in 0..256 {
         if !is_found(alloc, left, pick, allowed)? {
@@ -82,7 +82,7 @@ fn first_are_left(alloc: Global, left: &MemDisk, allowed: &[(u8, u8)]) -> anyhow
     Ok(true)
 }
 
-/// Whether one of these is found on each of the pictures that tell all others.
+/// Whether one of these is found on each of the images that tell all others.
 fn telling_are_left(alloc: Global, left: &MemDisk, allowed: &[(u8, u8)]) -> anyhow::Result<bool> {
     for pick in TELLING {
         if !is_found(alloc, left, pick, allowed)? {
@@ -92,7 +92,7 @@ fn telling_are_left(alloc: Global, left: &MemDisk, allowed: &[(u8, u8)]) -> anyh
     Ok(true)
 }
 
-/// Whether one of these is found on the picture with this number.
+/// Whether one of these is found on the image with this number.
 fn is_found(
     alloc: Global,
     left: &MemDisk,

@@ -101,7 +101,7 @@ where
     }
 }
 
-/// Whether one of these is found on each of the first 256 pictures that a stop now leaves.
+/// Whether one of these is found on each of the first 256 images that a stop now leaves.
 pub fn first_stand(alloc: Global, disk: &MemDisk, allowed: &[Standing]) -> anyhow::Result<bool> {
     for pick in 0..256 {
         if !stands(alloc, disk.after_stop(alloc, pick)?, allowed)? {
@@ -111,7 +111,7 @@ pub fn first_stand(alloc: Global, disk: &MemDisk, allowed: &[Standing]) -> anyho
     Ok(true)
 }
 
-/// Whether one of these is found on each of the pictures that tell all others.
+/// Whether one of these is found on each of the images that tell all others.
 pub fn telling_stand(alloc: Global, disk: &MemDisk, allowed: &[Standing]) -> anyhow::Result<bool> {
     for pick in TELLING {
         if !stands(alloc, disk.after_stop(alloc, pick)?, allowed)? {
@@ -121,9 +121,9 @@ pub fn telling_stand(alloc: Global, disk: &MemDisk, allowed: &[Standing]) -> any
     Ok(true)
 }
 
-/// Whether one of these is found on this picture.
-fn stands(alloc: Global, picture: MemDisk, allowed: &[Standing]) -> anyhow::Result<bool> {
-    let mut picture = picture;
-    let pages = told_pages(&mut picture)?;
-    Ok(allowed.contains(&found_on::<TableFile<MemDisk>>(alloc, picture, pages)))
+/// Whether one of these is found on this image.
+fn stands(alloc: Global, image: MemDisk, allowed: &[Standing]) -> anyhow::Result<bool> {
+    let mut image = image;
+    let pages = told_pages(&mut image)?;
+    Ok(allowed.contains(&found_on::<TableFile<MemDisk>>(alloc, image, pages)))
 }

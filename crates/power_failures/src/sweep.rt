@@ -55,15 +55,15 @@ pub fn sweep(rt: &HostRuntime, alloc: Global, text: &[u8]) -> anyhow::Result<boo
 }
 
 /// Does a deed with trouble at its first disk call, at the second, and so on until it is done without. Answers how many calls that
-/// were; none where something else was left than may be, or where the table is not right at the end. Where a call leaves the pictures
+/// were; none where something else was left than may be, or where the table is not right at the end. Where a call leaves the images
 /// that the one before it left, as a call that reads does, they are not asked again.
 fn calls_in_trouble(given: Given<'_>, deed: Deed, trouble: Trouble) -> anyhow::Result<Option<u64>> {
     let mut asked = Vec::new(given.alloc);
     let mut so_far = 0;
     for call in 0..MOST_CALLS {
         let (left, progress) = done_in_trouble(given, deed, trouble, call)?;
-        let pictures = telling(given.alloc, &left)?;
-        let is_new = progress.done != so_far || pictures.as_slice() != asked.as_slice();
+        let images = telling(given.alloc, &left)?;
+        let is_new = progress.done != so_far || images.as_slice() != asked.as_slice();
         if is_new && !is_left(given.alloc, &left, deed, progress)? {
             return Ok(None);
         }
@@ -72,7 +72,7 @@ fn calls_in_trouble(given: Given<'_>, deed: Deed, trouble: Trouble) -> anyhow::R
             Some(SolverFault::Disk) => {}
             Some(_) => return Ok(None),
         }
-        asked = pictures;
+        asked = images;
         so_far = progress.done;
     }
     Ok(None)
@@ -100,7 +100,7 @@ fn done_in_trouble(
 }
 
 /// Whether each stop now leaves what the commands that were answered lead to, or what the next one leads to. Of a disk that was just made
-/// longer the first 256 pictures keep four sectors of the new end at most, and those that tell all others lose it or keep it.
+/// longer the first 256 images keep four sectors of the new end at most, and those that tell all others lose it or keep it.
 fn is_left(alloc: Global, left: &MemDisk, deed: Deed, progress: Progress) -> anyhow::Result<bool> {
     let standings = deed.standings();
     let end = if progress.refused.is_some() { 2 } else { 1 };
@@ -109,16 +109,16 @@ fn is_left(alloc: Global, left: &MemDisk, deed: Deed, progress: Progress) -> any
     Ok(first_stand(alloc, left, &allowed)? && telling_stand(alloc, left, &allowed)?)
 }
 
-/// Numbers of pictures that tell all others of what a stop leaves: each sector that is not synced is as at the last sync, as written, and
+/// Numbers of images that tell all others of what a stop leaves: each sector that is not synced is as at the last sync, as written, and
 /// filled with noise.
 pub const TELLING: [u64; 3] = [0, u64::MAX / 3, u64::MAX];
 
-/// What tells which pictures a stop now leaves: where it is the same of two disks, so are the pictures.
+/// What tells which images a stop now leaves: where it is the same of two disks, so are the images.
 pub fn telling(alloc: Global, disk: &MemDisk) -> anyhow::Result<Vec<u8>> {
     let mut told = Vec::new(alloc);
     for pick in TELLING {
-        let mut picture = disk.after_stop(alloc, pick)?;
-        add_sectors(&mut picture, &mut told)?;
+        let mut image = disk.after_stop(alloc, pick)?;
+        add_sectors(&mut image, &mut told)?;
     }
     Ok(told)
 }

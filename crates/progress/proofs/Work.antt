@@ -1,7 +1,7 @@
 -- What answered commands come to, unit by unit.
 use Rattle.std.proofs.Common.{◌≡◌, ◌⊎◌, inl, inr, ℕ, ◌+◌, ◌*◌, ◌<◌, ◌≤◌, List, [], ◌∷◌, Option, None, Some, refl, sym, ◌∙◌, ap, subst, arith}
 use Rattle.std.proofs.lemmas.Option.{same_Some}
-use Rattle.sector_disk.specs.Disk.{Picture}
+use Rattle.sector_disk.specs.Disk.{Image}
 use Rattle.rbg_game.specs.Games.{Game}
 use Rattle.rbg_read.specs.Reads.{Reads}
 use Rattle.rbg_read.proofs.OneGame.{one_game}
@@ -260,14 +260,14 @@ enough_sittings_finish sittings kept game n leads is_read few many =
 
 -- so of the table that the headline speaks of
 pub it_gets_there : (Stores : ℕ → Layout)
-    → ((m n : ℕ) (picture : Picture) (one other : Option Kept) → Stores m picture one → Stores n picture other → one ≡ other)
-    → (sittings : List Sitting) (picture : Picture) (kept : Kept) (game : Game) (n : ℕ) → Headline Stores sittings picture
-    → Holds (in_any Stores) picture (Some kept) → Reads kept.text game → HasAtMost (graph_in game kept) n → 2 * n ≤ units_asked_in sittings
+    → ((m n : ℕ) (image : Image) (one other : Option Kept) → Stores m image one → Stores n image other → one ≡ other)
+    → (sittings : List Sitting) (image : Image) (kept : Kept) (game : Game) (n : ℕ) → Headline Stores sittings image
+    → Holds (in_any Stores) image (Some kept) → Reads kept.text game → HasAtMost (graph_in game kept) n → 2 * n ≤ units_asked_in sittings
     → IsFinished (view_of kept.table) × SaysWhatIs kept game
-it_gets_there Stores one_table sittings picture kept game n (found, leads, reopens, exact) holds is_read few many =
+it_gets_there Stores one_table sittings image kept game n (found, leads, reopens, exact) holds is_read few many =
     let (m, stored) = reopens.holds.stores in
     let (k, held) = holds.stores in
-    let same : found ≡ Some kept = one_table m k picture found (Some kept) stored held in
+    let same : found ≡ Some kept = one_table m k image found (Some kept) stored held in
     let (other, says) : IsExact (Some kept) = subst (λ (k : Option Kept). IsExact k) same exact in
     let one : other ≡ game = one_game kept.text other game says.reads is_read in (
       enough_sittings_finish sittings kept game n (subst (λ (k : Option Kept). LeadTo sittings None k) same leads) is_read few many,

@@ -1,6 +1,6 @@
 //! What enough work comes to, whatever stops came; and what work may be refused for.
 ghost use Rattle.std.specs.Prelude.{◌≡◌, ◌⊎◌, ℕ, ◌+◌, ◌*◌, ◌≤◌, ◌^◌, List, Option, None, Some, IsTrue};
-ghost use Rattle.sector_disk.specs.Disk.{Picture, Shown, MayLeave};
+ghost use Rattle.sector_disk.specs.Disk.{Image, Shown, MayLeave};
 ghost use Rattle.rbg_game.specs.Games.{Game};
 ghost use Rattle.rbg_game.specs.declared.roles.Player.TheVariants.{First};
 ghost use Rattle.rbg_read.specs.Reads.{Reads};
@@ -49,8 +49,8 @@ pub fn enough_work_finishes()
 /// finished table: its positions are those that play can come to, each settled one is won by the named player in exactly the named
 /// number of moves, and the unsettled are exactly the drawn.
 pub fn it_gets_there<F: GameFile>()
-    ensures { (sittings : List Sitting) (left : Shown) (picture : Picture) (kept : Kept) (game : Game) (n : ℕ) → History F.stores sittings left
-        → MayLeave left picture → Holds (in_any F.stores) picture (Some kept) → Reads kept.text game → HasAtMost (graph_in game kept) n
+    ensures { (sittings : List Sitting) (left : Shown) (image : Image) (kept : Kept) (game : Game) (n : ℕ) → History F.stores sittings left
+        → MayLeave left image → Holds (in_any F.stores) image (Some kept) → Reads kept.text game → HasAtMost (graph_in game kept) n
         → 2 * n ≤ units_asked_in sittings → IsFinished (view_of kept.table) × SaysWhatIs kept game }
 {
     the_headline::<F>()
@@ -59,9 +59,9 @@ pub fn it_gets_there<F: GameFile>()
 /// It gets there by the lines that were printed: whatever was done with the file of one table, by sessions of lines and by commands, each stopped at any
 /// moment, where the `work` lines whose replies had begun asked for so many units, what is left is the finished table.
 pub fn what_lines_told_gets_there<F: Versions>()
-    ensures { (told : List (List (Command × Reply))) (left : Shown) (picture : Picture) (kept : Kept) (game : Game) (n : ℕ)
-        → Uses F.stores F.state F.is_version F.are_two F.is_used_up F.lasts told left → MayLeave left picture
-        → Holds (in_any F.stores) picture (Some kept) → Reads kept.text game → HasAtMost (graph_in game kept) n → 2 * n ≤ units_told told
+    ensures { (told : List (List (Command × Reply))) (left : Shown) (image : Image) (kept : Kept) (game : Game) (n : ℕ)
+        → Uses F.stores F.state F.is_version F.are_two F.is_used_up F.lasts told left → MayLeave left image
+        → Holds (in_any F.stores) image (Some kept) → Reads kept.text game → HasAtMost (graph_in game kept) n → 2 * n ≤ units_told told
         → IsFinished (view_of kept.table) × SaysWhatIs kept game }
 {
     what_lines_told_is_kept::<F>()
@@ -69,8 +69,8 @@ pub fn what_lines_told_gets_there<F: Versions>()
 
 /// It gets there in brief, of what reopening gives.
 pub fn it_gets_there_in_brief<S: SavedTable>()
-    ensures { (sittings : List BriefSitting) (left : Shown) (picture : Picture) → BriefHistory S.calls sittings left → MayLeave left picture
-        → (headline : BriefHeadline S.calls sittings picture)
+    ensures { (sittings : List BriefSitting) (left : Shown) (image : Image) → BriefHistory S.calls sittings left → MayLeave left image
+        → (headline : BriefHeadline S.calls sittings image)
         × ((table : BriefTable) (game : Game) (n : ℕ) → headline.table ≡ Some table → TextSays table.text game → HasAtMost (play_of table.goal game) n
         → 2 * n ≤ units_for_sittings sittings → IsFinished table.view) }
 {
@@ -100,8 +100,8 @@ pub fn the_small_game_is_within_limits()
 
 /// A table of the small game for which eight units were asked for is finished, and says that white wins in two: by the law alone, whatever stops came.
 pub fn the_small_game_is_solved<F: GameFile>()
-    ensures { (sittings : List Sitting) (left : Shown) (picture : Picture) (kept : Kept) → History F.stores sittings left → MayLeave left picture
-        → Holds (in_any F.stores) picture (Some kept) → kept.text ≡ witness_text → kept.goal ≡ None → 8 ≤ units_asked_in sittings
+    ensures { (sittings : List Sitting) (left : Shown) (image : Image) (kept : Kept) → History F.stores sittings left → MayLeave left image
+        → Holds (in_any F.stores) image (Some kept) → kept.text ≡ witness_text → kept.goal ≡ None → 8 ≤ units_asked_in sittings
         → HasValue (view_of kept.table) (graph_in witness_game kept).start First 2 }
 {
     it_gets_there::<F>()

@@ -11,7 +11,7 @@ use Rattle.rbg_read.specs.declared.numbered.stretches.Stretch.{Stretch}
 use Rattle.rbg_read.specs.Written.{Spot, Cut, cut_at}
 use Rattle.rbg_read.specs.Placed.{Stand}
 use Rattle.rbg_read.specs.Tokens.{tokens_of, tokens_from, cut_of}
-use Rattle.rbg_read.specs.Listed.{AreTokensFrom, Shows, last, further, one_line, IsActionLine, AreActionLines}
+use Rattle.rbg_read.specs.Listed.{AreTokensFrom, ShowsTokens, last, further, one_line, IsActionLine, AreActionLines}
 use Rattle.rbg_read.specs.lemmas.Lines.{with_gap, line_of, IsLineOfStretch}
 use Rattle.rbg_read.proofs.TokenPlaces.{stand_drop, stand_begins}
 use Rattle.rbg_read.proofs.Stretches.{each_begins, each_fits}
@@ -33,16 +33,16 @@ one_more_action text (c ∷ cuts) (suc k) number lines line cut at are is =
 
 -- tokens as they stand in the text, in one line
 shown : (text : Text) (l : Lexeme) (more : List Lexeme) (tail : Text) (n : ℕ) → Stand text (l ∷ more) tail
-    → Shows (drop l.at text) (token_view l.token ∷ tokens_of (take n more)) (l.bytes.now ++ flat_map with_gap (take n more))
+    → ShowsTokens (drop l.at text) (token_view l.token ∷ tokens_of (take n more)) (l.bytes.now ++ flat_map with_gap (take n more))
 shown text l more tail zero stand =
-    subst (Shows (drop l.at text) (token_view l.token ∷ [])) (sym (append-nil l.bytes.now ∙ stand.1.bytes_are)) (last stand.1.takes)
+    subst (ShowsTokens (drop l.at text) (token_view l.token ∷ [])) (sym (append-nil l.bytes.now ∙ stand.1.bytes_are)) (last stand.1.takes)
 shown text l [] tail (suc n) stand =
-    subst (Shows (drop l.at text) (token_view l.token ∷ [])) (sym (append-nil l.bytes.now ∙ stand.1.bytes_are)) (last stand.1.takes)
+    subst (ShowsTokens (drop l.at text) (token_view l.token ∷ [])) (sym (append-nil l.bytes.now ∙ stand.1.bytes_are)) (last stand.1.takes)
 shown text l (m ∷ more) tail (suc n) stand =
     let behind = flat_map with_gap (take n more) in
     let next = shown text m more stand.0 n stand.2 in
     let line = further m.gap.now stand.1.takes stand.2.1.between stand.2.1.gap_is next in
-    subst (Shows (drop l.at text) (token_view l.token ∷ token_view m.token ∷ tokens_of (take n more)))
+    subst (ShowsTokens (drop l.at text) (token_view l.token ∷ token_view m.token ∷ tokens_of (take n more)))
     (ap (λ w. w ++ (one_line m.gap.now ++ (m.bytes.now ++ behind))) (sym stand.1.bytes_are)
     ∙ ap (λ w. l.bytes.now ++ w) (sym (append_assoc (one_line m.gap.now) m.bytes.now behind)))
     line
@@ -74,7 +74,7 @@ action_line text tokens s l number stand at begins within fits =
       at = l.at;
       begins = subst (λ ls. AreTokensFrom (drop l.at text) (tokens_of ls)) (sym here) (stand_begins text l more there.0 placed);
       shown = l.bytes.now ++ flat_map with_gap (take n more);
-      shows = subst (λ ts. Shows (drop l.at text) ts (l.bytes.now ++ flat_map with_gap (take n more))) (sym (cut_off tokens s l here begins fits))
+      shows = subst (λ ts. ShowsTokens (drop l.at text) ts (l.bytes.now ++ flat_map with_gap (take n more))) (sym (cut_off tokens s l here begins fits))
           (shown text l more there.0 n placed);
       written = refl;
     }

@@ -2,7 +2,7 @@
 use Rattle.std.proofs.Common.{◌≡◌, ℕ, zero, suc, ◌+◌, ◌-◌, ◌≤◌, List, [], ◌∷◌, ◌++◌, length, take, drop, Option, None, Some, refl, ap, sym}
 use Rattle.std.proofs.Common.{subst, ◌∙◌, append_assoc, length-append, arith}
 use Rattle.std.proofs.lemmas.List.{take-append-drop, drop_at, take_at, length-take-le, map-append}
-use Rattle.rbg_text.specs.Token.{Text, Token, Line, end, feed, byte, Gap, none, blank, comment, Takes, Splits, token_text}
+use Rattle.rbg_text.specs.Token.{Text, Token, CutsLine, end, feed, byte, Gap, none, blank, comment, Takes, Splits, token_text}
 use Rattle.rbg_text.specs.Lex.{cons_tokens}
 use Rattle.rbg_text.specs.View.{token_view}
 use Rattle.rbg_text.specs.lemmas.View.{with_front}
@@ -15,7 +15,7 @@ use Rattle.rbg_read.specs.Tokens.{tokens_of}
 abbrev EndsWith : Text → Text → Type 0
 EndsWith text tail = (front : Text) × (text ≡ front ++ tail)
 
-line_ends : {text after : Text} → Line text after → EndsWith text after
+line_ends : {text after : Text} → CutsLine text after → EndsWith text after
 line_ends end = ([], refl)
 line_ends feed = ([], refl)
 line_ends (byte {b = b} ne line) = let rest = line_ends line in (b ∷ rest.0, ap (λ t. b ∷ t) rest.1)

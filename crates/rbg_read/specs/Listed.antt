@@ -30,10 +30,10 @@ abbrev pub one_line : Text → List ℕ
 one_line gap = if list_any (λ b. b == 10) gap then 32 ∷ [] else gap
 
 -- the tokens with which a text begins, in one line: each as it is written, with what stands between two
-pub data Shows : Text → Tokens → List ℕ → Type 0 where
-  last : {text rest : Text} {t : Token} → Takes text t rest → Shows text (t ∷ []) (token_text t)
+pub data ShowsTokens : Text → Tokens → List ℕ → Type 0 where
+  last : {text rest : Text} {t : Token} → Takes text t rest → ShowsTokens text (t ∷ []) (token_text t)
   further : {text rest here : Text} (gap : Text) {t u : Token} {more : Tokens} {shown : List ℕ} → Takes text t rest → Gap rest here → rest ≡ gap ++ here
-      → Shows here (u ∷ more) shown → Shows text (t ∷ u ∷ more) (token_text t ++ (one_line gap ++ shown))
+      → ShowsTokens here (u ∷ more) shown → ShowsTokens text (t ∷ u ∷ more) (token_text t ++ (one_line gap ++ shown))
 
 -- what stands before the action that begins at a byte: its number, and the line and the column
 abbrev pub head_of : Text → ℕ → ℕ → List ℕ
@@ -44,7 +44,7 @@ pub record IsActionLine (text : Text) (cut : Cut) (number : ℕ) (line : List �
   pub at : ℕ
   pub begins : AreTokensFrom (drop at text) cut.here
   pub shown : List ℕ
-  pub shows : Shows (drop at text) (take (length cut.here - length cut.behind) cut.here) shown
+  pub shows : ShowsTokens (drop at text) (take (length cut.here - length cut.behind) cut.here) shown
   pub written : line ≡ head_of text number at ++ (shown ++ 10 ∷ [])
 
 -- the lines of actions one after the other, with numbers from this one on

@@ -1,10 +1,10 @@
 -- Blanks and comments: the relation and the function agree.
 use Rattle.std.proofs.Common.{◌≡◌, ◌≢◌, ℕ, true, false, ◌&&◌, ◌==◌, [], ◌∷◌, ◌∙◌, refl, inl, inr}
 use Rattle.std.proofs.lemmas.Bool.{cases_Bool, ne_eqb, eqb-true, eqb-false, and_parts, and_right}
-use Rattle.rbg_text.specs.Token.{Text, is_blank, Line, Gap, end, feed, byte, none, blank, comment}
+use Rattle.rbg_text.specs.Token.{Text, is_blank, CutsLine, Gap, end, feed, byte, none, blank, comment}
 use Rattle.rbg_text.specs.Lex.{skip_from, skip}
 
-line_skip : {text after : Text} → Line text after → skip_from true text ≡ skip_from false after
+line_skip : {text after : Text} → CutsLine text after → skip_from true text ≡ skip_from false after
 unfolding skip_from
 line_skip end = refl
 line_skip feed = refl
@@ -19,7 +19,7 @@ skip-gap (comment l g) = line_skip l ∙ skip-gap g
 
 -- the rest of a comment, and what is skipped after it
 Commented : Text → Type 0
-Commented text = (after : Text) × Line text after × Gap after (skip_from true text)
+Commented text = (after : Text) × CutsLine text after × Gap after (skip_from true text)
 
 line_on : (b : ℕ) (bs : Text) → b ≢ 10 → Commented bs → Commented (b ∷ bs)
 unfolding Commented skip_from

@@ -4,7 +4,7 @@ use Rattle.std.proofs.lemmas.Bool.{cases_Bool, or_cases, eqb-true, and_parts}
 use Rattle.std.proofs.lemmas.List.{length-append, append-nil}
 use Rattle.std.proofs.lemmas.Option.{option_and_then_some}
 use Rattle.std.specs.List.{list_all}
-use Rattle.rbg_text.specs.Token.{Text, Token, token_text, IsToken, is_word_byte, is_blank, sign_text, Takes, Line, Gap, IsStray, Splits}
+use Rattle.rbg_text.specs.Token.{Text, Token, token_text, IsToken, is_word_byte, is_blank, sign_text, Takes, CutsLine, Gap, IsStray, Splits}
 use Rattle.rbg_text.specs.Lex.{skip_from, skip, take_token, cons_tokens, lex_here, lex_from, lex}
 use Rattle.rbg_text.specs.lemmas.View.{with_front}
 use Rattle.rbg_text.specs.declared.token.Sign.{Sign}
@@ -72,10 +72,10 @@ token_some (Token.sign s) is = sign_some s
 
 -- ---- lengths
 
-line_len : {text rest : Text} → Line text rest → length rest ≤ length text
-line_len Line.end = omega arith
-line_len Line.feed = omega arith
-line_len (Line.byte ne l) = omega (arith, line_len l)
+line_len : {text rest : Text} → CutsLine text rest → length rest ≤ length text
+line_len CutsLine.end = omega arith
+line_len CutsLine.feed = omega arith
+line_len (CutsLine.byte ne l) = omega (arith, line_len l)
 
 gap_len : {text rest : Text} → Gap text rest → length rest ≤ length text
 gap_len Gap.none = omega arith

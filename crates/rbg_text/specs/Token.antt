@@ -62,16 +62,16 @@ abbrev pub is_blank : ℕ → Bool
 is_blank b = b == 32 || b == 9 || b == 13 || b == 10
 
 -- the bytes up to the next line feed or the end, and the text from there on
-pub data Line : Text → Text → Type 0 where
-  end : Line [] []
-  feed : {text : Text} → Line (10 ∷ text) (10 ∷ text)
-  byte : {b : ℕ} {text rest : Text} → b ≢ 10 → Line text rest → Line (b ∷ text) rest
+pub data CutsLine : Text → Text → Type 0 where
+  end : CutsLine [] []
+  feed : {text : Text} → CutsLine (10 ∷ text) (10 ∷ text)
+  byte : {b : ℕ} {text rest : Text} → b ≢ 10 → CutsLine text rest → CutsLine (b ∷ text) rest
 
 -- blanks and comments, and the text after them; a comment is `//` and the line after it
 pub data Gap : Text → Text → Type 0 where
   none : {text : Text} → Gap text text
   blank : {b : ℕ} {text rest : Text} → IsTrue (is_blank b) → Gap text rest → Gap (b ∷ text) rest
-  comment : {text after rest : Text} → Line text after → Gap after rest → Gap (47 ∷ 47 ∷ text) rest
+  comment : {text after rest : Text} → CutsLine text after → Gap after rest → Gap (47 ∷ 47 ∷ text) rest
 
 -- the longest token that the text begins with, and the text after it
 pub record Takes (text : Text) (t : Token) (rest : Text) : Type 0 where

@@ -26,7 +26,7 @@ use Rattle.earlier_layouts.specs.Calls.{file_of, state_of}
 use Rattle.earlier_layouts.specs.File.{FlatFile, IsBacked, IsFile, IsGame, kept_in, kept_of}
 use Rattle.earlier_layouts.specs.Held.{IsOlder, Stores}
 use Rattle.earlier_layouts.specs.MoveCauses.{MoveCause}
-use Rattle.earlier_layouts.specs.lemmas.ReadLaws.{a_picture_stores_one_table}
+use Rattle.earlier_layouts.specs.lemmas.ReadLaws.{an_image_stores_one_table}
 use Rattle.earlier_layouts.specs.lemmas.StoredLaws.{a_file_is_kept}
 use Rattle.earlier_layouts.specs.lemmas.Whole.{whole_asked}
 use Rattle.earlier_layouts.specs.declared.game.Game.{Game}
@@ -100,7 +100,7 @@ module _ (disk : Disk) (count : ℕ) (file : FlatFile) (whole : IsFile file) (fo
   pub opened_first : {X E : Type 0} (r : Result X E) (state : X → State) → OnOk r (IsOfAGame (kept_of file.game))
       → IfOk r (λ t. state t ≡ state_of file) → IfOk r (λ t. IsOpened Stores disk count (state t))
   opened_first (Ok t) state of same = subst (λ (s : State). IsOpened Stores disk count s) (sym same)
-      (opened Stores disk count (state_of file) a_picture_stores_one_table found (λ honest. of) (state_of file) (whole_asked file whole)
+      (opened Stores disk count (state_of file) an_image_stores_one_table found (λ honest. of) (state_of file) (whole_asked file whole)
       (λ honest is_open. a_file_is_kept file whole honest is_open))
   opened_first (Err e) state of same = tt
 
@@ -113,9 +113,9 @@ module _ (disk : Disk) (count : ℕ) (file : FlatFile) (whole : IsFile file) (fo
   no_game_first (Err e) disk_of failures_of fault_of same many cause = record {
     left = opened_back Stores disk count (state_of file) (disk_of e) (failures_of e) found
         (record { later = state_of file; asked = whole_asked file whole; disk = same; failures = many });
-    cause = no_game_opened Stores disk count (state_of file) (failures_of e) (fault_of e) a_picture_stores_one_table
-        (λ pages picture kept it. it.holds.table) found cause;
-    older = no_game_older Stores disk count (state_of file) IsOlder (λ pages picture kept older it. older) (failures_of e) (fault_of e) found cause;
+    cause = no_game_opened Stores disk count (state_of file) (failures_of e) (fault_of e) an_image_stores_one_table
+        (λ pages image kept it. it.holds.table) found cause;
+    older = no_game_older Stores disk count (state_of file) IsOlder (λ pages image kept older it. older) (failures_of e) (fault_of e) found cause;
   }
 
 -- the file is not read
@@ -125,7 +125,7 @@ unread_first disk back count now fault said is left cause =
     subst (λ (f : SolverFault). IsUnopened Stores (StoresTrees 3) (Unit {0}) IsOlder disk count back now f) (sym is)
     (record {
       left = left;
-      cause = open_cause Stores IsOlder (λ pages picture kept older it. older) disk count now fault cause;
+      cause = open_cause Stores IsOlder (λ pages image kept older it. older) disk count now fault cause;
       older = open_older Stores IsOlder disk count now fault cause;
     })
 

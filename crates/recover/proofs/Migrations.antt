@@ -1,6 +1,6 @@
 -- How the steps of a migration make one.
 use Rattle.std.proofs.Common.{◌≡◌, ◌≢◌, ◌≤◌, inl, inr, ℕ, Option, IsTrue, sym, ◌∙◌, ap, subst}
-use Rattle.sector_disk.specs.Disk.{Picture, Disk, Steps, SyncedMore, sector}
+use Rattle.sector_disk.specs.Disk.{Image, Disk, Steps, SyncedMore, sector}
 use Rattle.sector_disk.specs.lemmas.Moments.{leaves_more, leaves_then, still_honest}
 use Rattle.page_store.specs.lemmas.Works.{grew_since}
 use Rattle.game_file.specs.Calls.{IsNotOpened}
@@ -17,9 +17,9 @@ use Rattle.recover.specs.lemmas.Steps.{IsReadSince}
 use Rattle.recover.proofs.SyncedReads.{from_then, read_on, sync_from, sync_leaves}
 use Rattle.recover.proofs.Refusals.{unmoved_not_older}
 
--- a picture of the same contents has the same header
-header_of : {old new : Picture} → new ≡ old → sector new 0 ≡ sector old 0
-header_of same = ap (λ (p : Picture). sector p 0) same
+-- an image of the same contents has the same header
+header_of : {old new : Image} → new ≡ old → sector new 0 ≡ sector old 0
+header_of same = ap (λ (p : Image). sector p 0) same
 
 -- the table was in today's layout
 pub is_current : (Earlier Today : ℕ → Layout) (first disk : Disk) (count now : ℕ) (was : State) → IsReadSince first count disk now
@@ -32,7 +32,7 @@ is_current Earlier Today first disk count now was read opened =
       pages = was.capacity;
       kept = was.kept;
       held = λ honest.
-          subst (λ (p : Picture). Holds (Today was.capacity) p was.kept) (read.contents honest)
+          subst (λ (p : Image). Holds (Today was.capacity) p was.kept) (read.contents honest)
           (opened.holds (still_honest read.from.goes_on honest));
       leaves = after.leaves;
       is = λ honest. opened.now (still_honest read.from.goes_on honest);
@@ -46,9 +46,9 @@ still_there Earlier Today first disk back count now later said read left =
     record {
       from = seen.from;
       header = λ honest. header_of (seen.contents honest);
-      leaves = λ honest other. leaves_more (λ picture may. inl may) (seen.leaves honest);
-      unwritten = λ honest spared. leaves_more (λ picture may. inl may) (seen.leaves honest);
-      either = λ honest. leaves_more (λ picture may. inl (inl may)) (seen.leaves honest);
+      leaves = λ honest other. leaves_more (λ image may. inl may) (seen.leaves honest);
+      unwritten = λ honest spared. leaves_more (λ image may. inl may) (seen.leaves honest);
+      either = λ honest. leaves_more (λ image may. inl (inl may)) (seen.leaves honest);
     }
 
 -- the disk cannot be synced
@@ -59,12 +59,12 @@ not_synced Earlier Today first back count later said steps le same =
     record {
       from = sync_from first back count later steps le same;
       header = λ honest. header_of (same honest).contents;
-      leaves = λ honest other. leaves_more (λ picture may. inl may) (leaves honest);
-      unwritten = λ honest spared. leaves_more (λ picture may. inl may) (leaves honest);
-      either = λ honest. leaves_more (λ picture may. inl (inl may)) (leaves honest);
+      leaves = λ honest other. leaves_more (λ image may. inl may) (leaves honest);
+      unwritten = λ honest spared. leaves_more (λ image may. inl may) (leaves honest);
+      either = λ honest. leaves_more (λ image may. inl (inl may)) (leaves honest);
     }
 
-module _ (From Earlier Today : ℕ → Layout) (side : (pages : ℕ) (picture : Picture) (kept : Option Kept) → From pages picture kept → Earlier pages picture kept)
+module _ (From Earlier Today : ℕ → Layout) (side : (pages : ℕ) (image : Image) (kept : Option Kept) → From pages image kept → Earlier pages image kept)
     (first disk back : Disk) (count now later : ℕ) (read : IsReadSince first count disk now) where
   -- the table is opened in its layout
   module _ (was : State) (opened : IsOpened From disk now was) where
@@ -76,7 +76,7 @@ module _ (From Earlier Today : ℕ → Layout) (side : (pages : ℕ) (picture : 
         let here = opened.holds (still_honest read.from.goes_on honest) in
         record {
           stores = side was.capacity first.now.contents was.kept
-              (subst (λ (p : Picture). From was.capacity p was.kept) (read.contents honest) here.stores);
+              (subst (λ (p : Image). From was.capacity p was.kept) (read.contents honest) here.stores);
           of_a_game = here.of_a_game;
         }
 
@@ -91,9 +91,9 @@ module _ (From Earlier Today : ℕ → Layout) (side : (pages : ℕ) (picture : 
         kept = it.was.kept;
         held = held it.was it.opened;
         leaves = λ honest.
-            leaves_then it.moved.from.goes_on (leaves_more (λ picture left. inl left) (seen.leaves honest))
-            (leaves_more (λ picture left. elim left [
-              | inl old ↦ inr (inl (side it.was.capacity picture it.was.kept old))
+            leaves_then it.moved.from.goes_on (leaves_more (λ image left. inl left) (seen.leaves honest))
+            (leaves_more (λ image left. elim left [
+              | inl old ↦ inr (inl (side it.was.capacity image it.was.kept old))
               | inr new ↦ inr (inr new)
             ]) (it.moved.leaves (still_honest seen.from.goes_on honest)));
         is = λ honest. it.moved.now (still_honest seen.from.goes_on honest);
@@ -114,18 +114,18 @@ module _ (From Earlier Today : ℕ → Layout) (side : (pages : ℕ) (picture : 
         from = from_then seen.from it.left.from;
         header = λ honest. it.left.header (still_honest seen.from.goes_on honest) ∙ header_of (seen.contents honest);
         leaves = λ honest other.
-            leaves_then it.left.from.goes_on (leaves_more (λ picture left. inl left) (seen.leaves honest))
-            (leaves_more (λ picture left. inr (it.was.capacity, it.was.kept, had honest, side it.was.capacity picture it.was.kept left))
+            leaves_then it.left.from.goes_on (leaves_more (λ image left. inl left) (seen.leaves honest))
+            (leaves_more (λ image left. inr (it.was.capacity, it.was.kept, had honest, side it.was.capacity image it.was.kept left))
             (it.left.leaves (still_honest seen.from.goes_on honest) it.opened.is_open (λ is. other (it.is ∙ ap file_fault is))));
         unwritten = λ honest spared.
-            leaves_then it.left.from.goes_on (leaves_more (λ picture left. inl left) (seen.leaves honest))
-            (leaves_more (λ picture left. inr (it.was.capacity, it.was.kept, had honest, side it.was.capacity picture it.was.kept left))
+            leaves_then it.left.from.goes_on (leaves_more (λ image left. inl left) (seen.leaves honest))
+            (leaves_more (λ image left. inr (it.was.capacity, it.was.kept, had honest, side it.was.capacity image it.was.kept left))
             (it.left.unwritten (still_honest seen.from.goes_on honest) it.opened.is_open
             (λ grew. spared (grew_since seen.from.goes_on.failed_writes grew))));
         either = λ honest.
-            leaves_then it.left.from.goes_on (leaves_more (λ picture left. inl (inl left)) (seen.leaves honest))
-            (leaves_more (λ picture left. elim left [
-              | inl old ↦ inl (inr (it.was.capacity, it.was.kept, had honest, side it.was.capacity picture it.was.kept old))
+            leaves_then it.left.from.goes_on (leaves_more (λ image left. inl (inl left)) (seen.leaves honest))
+            (leaves_more (λ image left. elim left [
+              | inl old ↦ inl (inr (it.was.capacity, it.was.kept, had honest, side it.was.capacity image it.was.kept old))
               | inr new ↦ inr (it.was.capacity, it.was.kept, had honest, new)
             ]) (it.left.either (still_honest seen.from.goes_on honest) it.opened.is_open));
       }

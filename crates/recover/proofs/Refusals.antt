@@ -1,9 +1,9 @@
 -- Why a migration is refused.
 use Rattle.std.proofs.Common.{◌≡◌, ◌≢◌, ◌⊎◌, inl, inr, ℕ, Option, Some, None, IsTrue, refl, sym, ◌∙◌, subst}
 use Rattle.std.specs.Prelude.{IsSome}
-use Rattle.sector_disk.specs.Disk.{Picture, Disk}
+use Rattle.sector_disk.specs.Disk.{Image, Disk}
 use Rattle.sector_disk.specs.lemmas.Moments.{still_honest}
-use Rattle.root_pair.specs.Root.{IsTablePicture}
+use Rattle.root_pair.specs.Root.{IsTableImage}
 use Rattle.page_store.specs.lemmas.Works.{grew_since}
 use Rattle.game_file.specs.Kept.{Kept, Layout, Older, in_any}
 use Rattle.game_file.specs.State.{State}
@@ -69,10 +69,10 @@ older_or_not BadPosition = inr (λ is. let no : BadPosition ≡ OldLayout = is i
 module _ (First Second Today : ℕ → Layout) {BeforeFirst BeforeSecond BeforeToday : Older} {Copies : Type 0}
     (layouts : AreLayouts First Second BeforeFirst BeforeSecond BeforeToday Copies) (first disk : Disk) (count now : ℕ)
     (read : IsReadSince first count disk now) where
-  -- the picture begins as a table, and stores none
-  abbrev StoresNone : Picture → Type 0
-  StoresNone picture = IsTablePicture picture × ((kept : Option Kept) → ¬ Holds (in_any First) picture kept)
-      × ((kept : Option Kept) → ¬ Holds (in_any Second) picture kept) × ((kept : Option Kept) → ¬ Holds (in_any Today) picture kept)
+  -- the image begins as a table, and stores none
+  abbrev StoresNone : Image → Type 0
+  StoresNone image = IsTableImage image × ((kept : Option Kept) → ¬ Holds (in_any First) image kept)
+      × ((kept : Option Kept) → ¬ Holds (in_any Second) image kept) × ((kept : Option Kept) → ¬ Holds (in_any Today) image kept)
 
   -- a file is not opened
   unopened : (From : ℕ → Layout) (IsOlder : Older) (later : ℕ)
@@ -81,10 +81,10 @@ module _ (First Second Today : ℕ → Layout) {BeforeFirst BeforeSecond BeforeT
       → MigrateCause First Second Today first count later fault
   unopened From IsOlder later damaged DiskFailed other cause older = grew_since read.from.failures cause
   unopened From IsOlder later damaged NotATable other cause older = λ honest.
-      subst (λ (p : Picture). ¬ IsTablePicture p) (read.contents honest) (cause (still_honest read.from.goes_on honest))
+      subst (λ (p : Image). ¬ IsTableImage p) (read.contents honest) (cause (still_honest read.from.goes_on honest))
   unopened From IsOlder later damaged AlreadyATable other cause older = absurd cause
   unopened From IsOlder later damaged Damaged other cause older = λ honest.
-      subst (λ (p : Picture). StoresNone p) (read.contents honest) (damaged cause older honest)
+      subst (λ (p : Image). StoresNone p) (read.contents honest) (damaged cause older honest)
   unopened From IsOlder later damaged OldLayout other cause older = absurd (other refl)
   unopened From IsOlder later damaged TooSmall other cause older = absurd cause
   unopened From IsOlder later damaged TableFull other cause older = absurd cause
@@ -116,7 +116,7 @@ module _ (First Second Today : ℕ → Layout) {BeforeFirst BeforeSecond BeforeT
   -- what the first disk does not store this one does not
   none_here : (From : ℕ → Layout) → IsTrue first.honest → ((kept : Option Kept) → ¬ in_any From first.now.contents kept)
       → (kept : Option Kept) → ¬ Holds (in_any From) disk.now.contents kept
-  none_here From honest none kept holds = none kept (subst (λ (p : Picture). in_any From p kept) (read.contents honest) holds.stores)
+  none_here From honest none kept holds = none kept (subst (λ (p : Image). in_any From p kept) (read.contents honest) holds.stores)
 
   -- none of today's layout is there
   module _ (no_today : IsTrue first.honest → (kept : Option Kept) → ¬ in_any Today first.now.contents kept) where
@@ -157,7 +157,7 @@ module _ (First Second Today : ℕ → Layout) {BeforeFirst BeforeSecond BeforeT
     held : (kept : Kept) → was.kept ≡ Some kept → IsTrue first.honest → Holds (in_any From) first.now.contents (Some kept)
     held kept is honest =
         let here = opened.holds (still_honest read.from.goes_on honest) in
-        subst (λ (p : Picture). Holds (in_any From) p (Some kept)) (read.contents honest)
+        subst (λ (p : Image). Holds (in_any From) p (Some kept)) (read.contents honest)
         (subst (λ (k : Option Kept). Holds (in_any From) disk.now.contents k) is
         (record { stores = (was.capacity, here.stores); of_a_game = here.of_a_game }))
 
@@ -227,12 +227,12 @@ module _ (First Second Today : ℕ → Layout) {BeforeFirst BeforeSecond BeforeT
       subst (λ (f : SolverFault). MigrateCause First Second Today first count later f)
       (sym (is_other (unmoved_not_older disk back now later fault it))) (first_unmoved back later fault it)
 
--- a picture of an earlier layout stores none of this one
+-- an image of an earlier layout stores none of this one
 pub none_by : (From : ℕ → Layout) (first disk : Disk) (count now later : ℕ) (fault : SolverFault) → fault ≡ OldLayout → IsReadSince first count disk now
     → OpenCause From disk now later fault → IsTrue first.honest → (kept : Option Kept) → ¬ in_any From first.now.contents kept
 none_by From first disk count now later fault older read cause honest kept stored =
     subst (λ (f : SolverFault). OpenCause From disk now later f) older cause (still_honest read.from.goes_on honest) kept
-    (subst (λ (p : Picture). in_any From p kept) (sym (read.contents honest)) stored)
+    (subst (λ (p : Image). in_any From p kept) (sym (read.contents honest)) stored)
 
 -- a file that is of an earlier layout still was read, and holds no table of this one
 module _ (From To : ℕ → Layout) {Copies : Type 0} {IsOlder : Older} (first disk back : Disk) (count now later : ℕ) (fault : SolverFault)

@@ -1,7 +1,7 @@
 -- What becomes of a table where its layout may be an earlier one than today's.
 use Rattle.std.specs.Prelude.{◌≢◌, ◌⊎◌, ℕ, Option, Some, IsTrue}
-use Rattle.sector_disk.specs.Disk.{Picture, Shown, Disk, Grew, LeavesOnly, MayLeave, StopsIn}
-use Rattle.root_pair.specs.Root.{IsTablePicture}
+use Rattle.sector_disk.specs.Disk.{Image, Shown, Disk, Grew, LeavesOnly, MayLeave, StopsIn}
+use Rattle.root_pair.specs.Root.{IsTableImage}
 use Rattle.page_store.specs.Store.{SameHeader}
 use Rattle.table.specs.Fit.{FitsTogether}
 use Rattle.game_file.specs.Kept.{Kept, Layout, Older, in_any}
@@ -11,16 +11,16 @@ use Rattle.solver.specs.declared.fault.SolverFault.{SolverFault}
 use Rattle.solver.specs.declared.fault.SolverFault.TheVariants.{Disk as DiskFailed, NotATable, Damaged, TableFull, OutOfMemory, Inconsistent}
 use Rattle.solver.specs.Held.{Holds}
 
--- the picture stores the table in the one layout or in the other
+-- the image stores the table in the one layout or in the other
 abbrev pub EitherLayout : (ℕ → Layout) → (ℕ → Layout) → ℕ → Layout
-EitherLayout One Other pages picture kept = One pages picture kept ⊎ Other pages picture kept
+EitherLayout One Other pages image kept = One pages image kept ⊎ Other pages image kept
 
 -- a file of the second layout and of today's tells tables of the layouts before it by their slots; before the first there was none; and a
 -- table of the second layout moves by its root alone
 pub record AreLayouts (First Second : ℕ → Layout) (IsBeforeFirst IsBeforeSecond IsBeforeToday : Older) (CopiesSecond : Type 0) : Type 0 where
-  pub first_is_first : (picture : Picture) → ¬ IsBeforeFirst picture
-  pub first_before : (pages : ℕ) (picture : Picture) (kept : Option Kept) → First pages picture kept → IsBeforeSecond picture × IsBeforeToday picture
-  pub second_before : (pages : ℕ) (picture : Picture) (kept : Option Kept) → Second pages picture kept → IsBeforeToday picture
+  pub first_is_first : (image : Image) → ¬ IsBeforeFirst image
+  pub first_before : (pages : ℕ) (image : Image) (kept : Option Kept) → First pages image kept → IsBeforeSecond image × IsBeforeToday image
+  pub second_before : (pages : ℕ) (image : Image) (kept : Option Kept) → Second pages image kept → IsBeforeToday image
   pub by_root : ¬ CopiesSecond
 
 module _ (Earlier Today : ℕ → Layout) where
@@ -34,7 +34,7 @@ module _ (Earlier Today : ℕ → Layout) where
     pub kept : Option Kept
     pub held : IsTrue disk.honest → Holds (Earlier pages) disk.now.contents kept
     pub leaves : IsTrue disk.honest
-        → LeavesOnly disk back (λ picture. MayLeave disk.now picture ⊎ (Earlier pages picture kept ⊎ Today pages picture kept))
+        → LeavesOnly disk back (λ image. MayLeave disk.now image ⊎ (Earlier pages image kept ⊎ Today pages image kept))
     pub is : IsTrue disk.honest → LeavesNow (Today pages) back kept
 
   -- the table was in today's layout before, and nothing was written: a stop leaves what it could leave before, and a stop now this table
@@ -48,14 +48,14 @@ module _ (Earlier Today : ℕ → Layout) where
     pub is : IsTrue disk.honest → LeavesNow (Today pages) back kept
 
   -- what a stop leaves of a disk that held a table of an earlier layout: what it could leave before, or this table in an earlier layout
-  abbrev pub OldTable : Disk → Picture → Type 0
-  OldTable disk picture = MayLeave disk.now picture
-      ⊎ ((pages : ℕ) × (kept : Option Kept) × Holds (Earlier pages) disk.now.contents kept × Earlier pages picture kept)
+  abbrev pub OldTable : Disk → Image → Type 0
+  OldTable disk image = MayLeave disk.now image
+      ⊎ ((pages : ℕ) × (kept : Option Kept) × Holds (Earlier pages) disk.now.contents kept × Earlier pages image kept)
 
   -- or in today's
-  abbrev pub OldOrNewTable : Disk → Picture → Type 0
-  OldOrNewTable disk picture = OldTable disk picture
-      ⊎ ((pages : ℕ) × (kept : Option Kept) × Holds (Earlier pages) disk.now.contents kept × Today pages picture kept)
+  abbrev pub OldOrNewTable : Disk → Image → Type 0
+  OldOrNewTable disk image = OldTable disk image
+      ⊎ ((pages : ℕ) × (kept : Option Kept) × Holds (Earlier pages) disk.now.contents kept × Today pages image kept)
 
   -- it was refused: a stop since it began leaves what it could leave before, or the old table; where a write or a sync failed, that or the
   -- same table in today's layout
@@ -70,9 +70,9 @@ module _ (Earlier Today : ℕ → Layout) where
 -- first layout with a game, and too few pages are free, or its positions have no bytes; or memory ran out. It is never E5
 abbrev pub MigrateCause : (ℕ → Layout) → (ℕ → Layout) → (ℕ → Layout) → Disk → ℕ → ℕ → SolverFault → Type 0
 MigrateCause First Second Today disk before now DiskFailed = Grew before now
-MigrateCause First Second Today disk before now NotATable = IsTrue disk.honest → ¬ IsTablePicture disk.now.contents
+MigrateCause First Second Today disk before now NotATable = IsTrue disk.honest → ¬ IsTableImage disk.now.contents
 MigrateCause First Second Today disk before now Damaged =
-    IsTrue disk.honest → IsTablePicture disk.now.contents
+    IsTrue disk.honest → IsTableImage disk.now.contents
     × ((kept : Option Kept) → ¬ Holds (in_any First) disk.now.contents kept)
     × ((kept : Option Kept) → ¬ Holds (in_any Second) disk.now.contents kept)
     × ((kept : Option Kept) → ¬ Holds (in_any Today) disk.now.contents kept)
@@ -85,7 +85,7 @@ MigrateCause First Second Today disk before now _ = ⊥
 
 -- an honest disk as it is found after a stop: nothing can be left of it that the stop could not leave
 abbrev pub IsFoundThen : Shown → Disk → Type 0
-IsFoundThen left disk = IsTrue disk.honest × ((picture : Picture) → MayLeave disk.now picture → MayLeave left picture)
+IsFoundThen left disk = IsTrue disk.honest × ((image : Image) → MayLeave disk.now image → MayLeave left image)
 
 -- what the disk shows in the course of migrations of this table: at first every stop leaves it, in an earlier layout or
 -- in today's; and any number of migrations begin with what is left, each answered or refused, and a stop may come at
@@ -93,7 +93,7 @@ IsFoundThen left disk = IsTrue disk.honest × ((picture : Picture) → MayLeave 
 module _ (Earlier Today : ℕ → Layout) (kept : Option Kept) where
   pub data AreMigrations : Shown → Type 0 where
     began : {left : Shown}
-        → ((picture : Picture) → MayLeave left picture → in_any (EitherLayout Earlier Today) picture kept)
+        → ((image : Image) → MayLeave left image → in_any (EitherLayout Earlier Today) image kept)
         → AreMigrations left
     was_migrated : {before left : Shown} {disk back : Disk} {count now moment : ℕ} → AreMigrations before
         → IsFoundThen before disk → IsMigrated Earlier Today disk count back now → StopsIn disk back moment left

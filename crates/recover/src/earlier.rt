@@ -19,10 +19,10 @@ pub trait EarlierFile<Today: GameFile> {
     /// The disk that it is on.
     type Device: SectorDisk;
 
-    /// Which pictures of the disk store which table in this many pages: the layout of the file.
+    /// Which images of the disk store which table in this many pages: the layout of the file.
     ghost stores: { ℕ → Layout };
 
-    /// Which pictures of the disk hold a table of a layout before this one, which is not opened.
+    /// Which images of the disk hold a table of a layout before this one, which is not opened.
     ghost is_older: { Older };
 
     /// Its table is copied to free pages. Else it moves by a new root alone.

@@ -862,7 +862,7 @@ module _ {P : Type 0} (graph : Graph P) (stored : Stored P) (table : IsTable sto
   counts_all : IsCounted (with_processed graph s r w stored)
   counts_all = counted_below graph w d s size base (base_counted stored table s r w next r.distance refl)
 
-  -- To process the next settled number of what is all expanded keeps the parts of a table together, sound or not.
+  -- Processing the next settled position of an expanded table keeps its parts together, sound or not.
   pub a_processed_table_fits : IsTable (with_processed graph s r w stored)
   a_processed_table_fits = lowered_fits (with_processed graph s r w stored) leaves_all falls_all.0 falls_all.1 counts_all
 

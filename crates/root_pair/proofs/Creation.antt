@@ -1,10 +1,10 @@
 -- What a stop within the parts of `create` leaves.
 use Rattle.std.proofs.Common.{◌≡◌, ◌≢◌, inl, inr, ℕ, ◌<◌, ◌≤◌, List, length, take, slice_index, IsTrue, refl, sym, ◌∙◌, ap, arith}
-use Rattle.sector_disk.specs.Disk.{Picture, sector, Shown, MayLeave, Keeps, AllSynced, SyncedMore, Disk, size, GoesOn, LeavesOnly}
+use Rattle.sector_disk.specs.Disk.{Image, sector, Shown, MayLeave, Keeps, AllSynced, SyncedMore, Disk, size, GoesOn, LeavesOnly}
 use Rattle.sector_disk.specs.lemmas.Disk.{KeepsThroughout}
 use Rattle.sector_disk.specs.lemmas.Moments.{leaves_then, leaves_more, keeps_fewer, keeps_trans, sync_keeps, still_honest}
 use Rattle.std.specs.Prelude.{Result, Ok, Err, IfErr}
-use Rattle.root_pair.specs.Root.{Begins, IsTablePicture, picked, root_of, OldOrNoneOrNew, blank_gate}
+use Rattle.root_pair.specs.Root.{BeginsAsTable, IsTableImage, picked, root_of, OldOrNoneOrNew, blank_gate}
 use Rattle.root_pair.specs.lemmas.Root.{IsClosed, IsLaid}
 
 -- a write of the gate or of a slot keeps the rest
@@ -25,17 +25,17 @@ unfolding blank_gate
 first_of_blank = refl
 
 module _ (root : List ℕ) (old fresh laid : Disk) (honest : IsTrue old.honest) (goes_on : GoesOn old fresh)
-    (none : Begins old.now.contents → ⊥) (synced : AllSynced fresh.now) (more : SyncedMore old.now fresh.now)
+    (none : BeginsAsTable old.now.contents → ⊥) (synced : AllSynced fresh.now) (more : SyncedMore old.now fresh.now)
     (at_first : LeavesOnly old fresh (MayLeave old.now)) (kept : IsTrue fresh.honest → KeepsThroughout IsClosed fresh laid) where
   -- the header does not begin as a table's while the slots and the gate are written
   pub while_laid : LeavesOnly old laid (OldOrNoneOrNew old.now root)
   while_laid =
       let lay = kept (still_honest goes_on honest) in
-      leaves_then lay.goes_on (leaves_more (λ picture left table. inl left) at_first)
-      (leaves_more (λ picture left table. absurd (none (begins picture (left.same 0 ((λ le. omega (arith, le)), synced.synced 0)) table))) lay.leaves)
+      leaves_then lay.goes_on (leaves_more (λ image left table. inl left) at_first)
+      (leaves_more (λ image left table. absurd (none (begins image (left.same 0 ((λ le. omega (arith, le)), synced.synced 0)) table))) lay.leaves)
     where
-      begins : (picture : Picture) → sector picture 0 ≡ sector fresh.now.contents 0 → IsTablePicture picture → Begins old.now.contents
-      begins picture same table = ap (λ (s : List ℕ). take 8 s) (ap (λ (p : Picture). sector p 0) (sym more.contents) ∙ sym same) ∙ table.begins
+      begins : (image : Image) → sector image 0 ≡ sector fresh.now.contents 0 → IsTableImage image → BeginsAsTable old.now.contents
+      begins image same table = ap (λ (s : List ℕ). take 8 s) (ap (λ (p : Image). sector p 0) (sym more.contents) ∙ sym same) ∙ table.begins
 
   -- whatever the header is, a table has the root
   pub while_signed : (signed : Disk) → 128 ≤ size laid → IsLaid root fresh.now laid.now
@@ -43,21 +43,21 @@ module _ (root : List ℕ) (old fresh laid : Disk) (honest : IsTrue old.honest) 
   while_signed signed room is_laid kept_2 =
       let sign = kept_2 (still_honest (kept (still_honest goes_on honest)).goes_on (still_honest goes_on honest)) in
       let lay = kept (still_honest goes_on honest) in
-      leaves_then sign.goes_on while_laid (leaves_more (λ picture left table. inr (record {
+      leaves_then sign.goes_on while_laid (leaves_more (λ image left table. inr (record {
         holds = record {
           table = table;
-          is = root_is picture (left.same 1 ((omega arith), is_laid.synced.synced 1))
+          is = root_is image (left.same 1 ((omega arith), is_laid.synced.synced 1))
               ∙ left.same 2 ((omega arith), is_laid.synced.synced 2) ∙ is_laid.slot;
         };
-        room = omega (arith, room, lay.keeps.same_size, ap (λ (p : Picture). length p) more.contents);
-        no_shorter = omega (arith, is_laid.synced.lasting, left.no_shorter, lay.keeps.same_size, ap (λ (p : Picture). length p) more.contents);
+        room = omega (arith, room, lay.keeps.same_size, ap (λ (p : Image). length p) more.contents);
+        no_shorter = omega (arith, is_laid.synced.lasting, left.no_shorter, lay.keeps.same_size, ap (λ (p : Image). length p) more.contents);
       })) sign.leaves)
     where
-      root_is : (picture : Picture) → sector picture 1 ≡ sector laid.now.contents 1 → root_of picture ≡ sector picture 2
-      root_is picture gate =
-          let zero : slice_index (sector picture 1) 0 ≡ 0 = ap (λ (s : List ℕ). slice_index s 0) (gate ∙ is_laid.gate) ∙ first_of_blank in
-          let slot : picked picture ≡ 2 = omega (arith, zero) in
-          ap (λ (k : ℕ). sector picture k) slot
+      root_is : (image : Image) → sector image 1 ≡ sector laid.now.contents 1 → root_of image ≡ sector image 2
+      root_is image gate =
+          let zero : slice_index (sector image 1) 0 ≡ 0 = ap (λ (s : List ℕ). slice_index s 0) (gate ∙ is_laid.gate) ∙ first_of_blank in
+          let slot : picked image ≡ 2 = omega (arith, zero) in
+          ap (λ (k : ℕ). sector image k) slot
 
 -- where nothing was written, whatever fault is told
 pub told_unwritten : {X E : Type 0} (Such : E → Type 0) {P : Type 0} (r : Result X E) → P → IfErr r (λ e. Such e → P)

@@ -1,18 +1,18 @@
 -- What a stop within the two halves of `publish` leaves.
 use Rattle.std.proofs.Common.{◌≡◌, ◌≢◌, inl, inr, ℕ, ◌-◌, ◌%◌, ◌≤◌, List, length, take, slice_index, IsTrue, refl, ◌∙◌, ap, subst, arith}
 use Rattle.std.proofs.lemmas.Bool.{cases_eq}
-use Rattle.sector_disk.specs.Disk.{Picture, sector, Shown, Agrees, MayLeave, Keeps, AllSynced, Disk, Steps, LeavesOnly}
+use Rattle.sector_disk.specs.Disk.{Image, sector, Shown, Agrees, MayLeave, Keeps, AllSynced, Disk, Steps, LeavesOnly}
 use Rattle.sector_disk.specs.lemmas.Disk.{KeepsThroughout}
 use Rattle.sector_disk.specs.lemmas.Moments.{leaves_step, leaves_then, leaves_more, still_honest}
 use Rattle.root_pair.specs.lemmas.Rest.{bit, same_root, rest_leaves}
 use Rattle.root_pair.specs.Root.{picked, spare_by, turned, IsAtRest, IsPublished, OldOrNew}
 
 -- the first half: only the spare slot is open
-pub first_half : (shown : Shown) (root : List ℕ) (spare : ℕ) → IsAtRest shown → spare ≡ 3 - bit shown.contents → (picture : Picture)
-    → Agrees shown (λ k. (k ≢ spare) × IsTrue (shown.synced k)) picture → OldOrNew shown root picture
-first_half shown root spare rest is picture left =
+pub first_half : (shown : Shown) (root : List ℕ) (spare : ℕ) → IsAtRest shown → spare ≡ 3 - bit shown.contents → (image : Image)
+    → Agrees shown (λ k. (k ≢ spare) × IsTrue (shown.synced k)) image → OldOrNew shown root image
+first_half shown root spare rest is image left =
     inl (
-      same_root shown picture rest left.no_shorter
+      same_root shown image rest left.no_shorter
           (left.same 0 ((omega arith), rest.synced 0 (omega arith)))
           (ap (λ (s : List ℕ). slice_index s 0 % 2) (left.same 1 ((omega arith), rest.synced 1 (omega arith))))
           (left.same (picked shown.contents) ((omega arith), rest.synced (picked shown.contents) (omega arith))),
@@ -22,32 +22,32 @@ first_half shown root spare rest is picture left =
 -- the second half: only the gate is open, and it picks the one slot or the other
 pub second_half : (old shown : Shown) (root : List ℕ) (spare : ℕ) → IsAtRest old → spare ≡ 3 - bit old.contents
     → Keeps (λ k. k ≢ spare) old shown → sector shown.contents spare ≡ root → AllSynced shown
-    → (picture : Picture) → Agrees shown (λ k. (k ≢ 1) × IsTrue (shown.synced k)) picture → OldOrNew old root picture
-second_half old shown root spare rest is changed written synced picture left = elim (cases_eq (bit picture) (bit old.contents)) [
+    → (image : Image) → Agrees shown (λ k. (k ≢ 1) × IsTrue (shown.synced k)) image → OldOrNew old root image
+second_half old shown root spare rest is changed written synced image left = elim (cases_eq (bit image) (bit old.contents)) [
   | inl same ↦ inl (
-    same_root old picture rest longer header same (kept (picked old.contents) (omega arith) (omega arith)),
+    same_root old image rest longer header same (kept (picked old.contents) (omega arith) (omega arith)),
     agrees (λ k. (4 ≤ k) × IsTrue (old.synced k)) (λ k at. at.0),
   )
   | inr other ↦ inr (
     record {
       table = record { enough = omega (arith, longer, rest.lasting); begins = ap (λ (s : List ℕ). take 8 s) header ∙ rest.table.begins };
-      is = (let slot : picked picture ≡ spare = omega (arith, is, other) in ap (λ (k : ℕ). sector picture k) slot)
+      is = (let slot : picked image ≡ spare = omega (arith, is, other) in ap (λ (k : ℕ). sector image k) slot)
           ∙ left.same spare ((omega (arith, is)), synced.synced spare) ∙ written;
     },
     agrees (λ k. 4 ≤ k) (λ k at. at),
   )
 ]
   where
-    kept : (k : ℕ) → k ≢ 1 → k ≢ spare → sector picture k ≡ sector old.contents k
+    kept : (k : ℕ) → k ≢ 1 → k ≢ spare → sector image k ≡ sector old.contents k
     kept k gate slot = left.same k (gate, synced.synced k) ∙ changed.contents k slot
 
-    longer : old.lasting ≤ length picture
+    longer : old.lasting ≤ length image
     longer = omega (arith, changed.lasting, left.no_shorter)
 
-    header : sector picture 0 ≡ sector old.contents 0
+    header : sector image 0 ≡ sector old.contents 0
     header = kept 0 (omega arith) (omega (arith, is))
 
-    agrees : (at : ℕ → Type 0) → ((k : ℕ) → at k → 4 ≤ k) → Agrees old at picture
+    agrees : (at : ℕ → Type 0) → ((k : ℕ) → at k → 4 ≤ k) → Agrees old at image
     agrees at behind = record {
       no_shorter = longer;
       no_longer = omega (arith, left.no_longer, changed.same_size);
@@ -60,16 +60,16 @@ unfolding turned
 first_of_turned bytes = refl
 
 -- the old root and all that was synced, as at the start
-pub stays : (shown : Shown) (root : List ℕ) → IsAtRest shown → (picture : Picture) → MayLeave shown picture → OldOrNew shown root picture
-stays shown root rest picture left =
-    inl (rest_leaves shown rest picture left, record { no_shorter = left.no_shorter; no_longer = left.no_longer; same = λ k at. left.same k at.1 })
+pub stays : (shown : Shown) (root : List ℕ) → IsAtRest shown → (image : Image) → MayLeave shown image → OldOrNew shown root image
+stays shown root rest image left =
+    inl (rest_leaves shown rest image left, record { no_shorter = left.no_shorter; no_longer = left.no_longer; same = λ k at. left.same k at.1 })
 
 module _ (root : List ℕ) (start read : Disk) (honest : IsTrue start.honest) (rest : IsAtRest start.now) (step : Steps start read)
     (unchanged : IsTrue start.honest → read.now ≡ start.now) where
   -- the gate is read
   pub read_gate : LeavesOnly start read (OldOrNew start.now root)
   read_gate = leaves_step step (stays start.now root rest)
-      (λ picture left. stays start.now root rest picture (subst (λ s. MayLeave s picture) (unchanged honest) left))
+      (λ image left. stays start.now root rest image (subst (λ s. MayLeave s image) (unchanged honest) left))
 
   still : IsTrue read.honest
   still = still_honest step.goes_on honest
@@ -79,8 +79,8 @@ module _ (root : List ℕ) (start read : Disk) (honest : IsTrue start.honest) (r
       → (IsTrue read.honest → KeepsThroughout (λ k. k ≢ spare) read slot) → LeavesOnly start slot (OldOrNew start.now root)
   put_slot spare slot is kept =
       leaves_then (kept still).goes_on read_gate
-      (leaves_more (λ picture left. first_half start.now root spare rest is picture
-      (subst (λ s. Agrees s (λ k. (k ≢ spare) × IsTrue (s.synced k)) picture) (unchanged honest) left)) (kept still).leaves)
+      (leaves_more (λ image left. first_half start.now root spare rest is image
+      (subst (λ s. Agrees s (λ k. (k ≢ spare) × IsTrue (s.synced k)) image) (unchanged honest) left)) (kept still).leaves)
 
   -- the gate is turned
   pub put_gate : (spare : ℕ) (slot gate : Disk) → spare ≡ 3 - bit start.now.contents → (IsTrue read.honest → KeepsThroughout (λ k. k ≢ spare) read slot)

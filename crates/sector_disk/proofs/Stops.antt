@@ -1,4 +1,4 @@
--- The last sync among the events, and a sector more of the picture that a number picks.
+-- The last sync among the events, and a sector more of the image that a number picks.
 use Rattle.std.proofs.Common.{◌≡◌, inl, inr, ℕ, suc, zero, ◌+◌, ◌-◌, ◌*◌, ◌/◌, ◌%◌, ◌^◌, ◌<◌, Bool, true, false, List, [], ◌∷◌, ◌++◌, length, drop, IsTrue, refl, sym, ◌∙◌, ap, subst, arith, length-append, ◌==◌, if◌then◌else◌}
 use Rattle.std.specs.Prelude.{slice_index_or}
 use Rattle.std.proofs.Common.{nat_lt, ◌≤◌, Option, None, take}
@@ -8,7 +8,7 @@ use Rattle.std.proofs.lemmas.Bool.{cases_lt, eq-eqb, le-ltb}
 use Rattle.std.proofs.lemmas.Nat.{pow-add, mul-pow}
 use Rattle.sector_disk.specs.declared.log.Event.{Event}
 use Rattle.sector_disk.specs.declared.log.Event.TheVariants.{Wrote, Synced, Extended}
-use Rattle.sector_disk.specs.Disk.{Picture, sector, Disk, MayLeave, with_failed}
+use Rattle.sector_disk.specs.Disk.{Image, sector, Disk, MayLeave, with_failed}
 use Rattle.sector_disk.specs.Past.{before, undone, synced_after, end_after, lasting_of, memory_disk}
 use Rattle.sector_disk.specs.lemmas.Log.{IsLastSyncOf, IsAsAtSync, last_by}
 use Rattle.sector_disk.specs.Stops.{IsEndOf, IsLastSync, IsPickedBy, unsynced_below, digit, torn, left_at, was_at}
@@ -72,12 +72,12 @@ last_next events (Extended end) count last is_count so_far =
         cc
 
 -- the last sync of a disk in memory
-pub last_sync_is : (events : List Event) (picture : Picture) (last : ℕ) → IsLastSyncOf events last → IsLastSync (memory_disk events picture) last
-last_sync_is events picture last is = record {
+pub last_sync_is : (events : List Event) (image : Image) (last : ℕ) → IsLastSyncOf events last → IsLastSync (memory_disk events image) last
+last_sync_is events image last is = record {
   past = is.within;
   all = record {
     synced = is.all;
-    lasting = ap (λ (end : Option ℕ). lasting_of end (undone (drop last events) picture)) (all_lasts (take last events) is.all);
+    lasting = ap (λ (end : Option ℕ). lasting_of end (undone (drop last events) image)) (all_lasts (take last events) is.all);
   };
   later = λ k after le all. is.later k after le all.synced;
 }
@@ -112,7 +112,7 @@ digit_shifted pick number small =
     ap (λ (n : ℕ). pick / n % 4) base
 
 -- a sector that was put together is the one after the stop
-pub left_here : (pick place number fill : ℕ) (synced : ℕ → Bool) (before written : Picture) (is : Bool) (old now torn_now left : List ℕ)
+pub left_here : (pick place number fill : ℕ) (synced : ℕ → Bool) (before written : Image) (is : Bool) (old now torn_now left : List ℕ)
     → is ≡ synced place → old ≡ was_at before place → now ≡ sector written place → number ≡ unsynced_below synced place % 32
     → fill ≡ (place + pick / 4) % 256 → torn_now ≡ torn (digit pick number) fill old now → left ≡ (if is then now else torn_now)
     → left ≡ left_at pick synced before written place
@@ -121,7 +121,7 @@ left_here pick place number fill synced before written is old now torn_now left 
     rw (← is_is, ← now_is, ← old_is, ← fill_is, ← digit_is, ← torn_is) left_is
 
 -- a list of sectors with one more
-pub each_more : (f : ℕ → List ℕ) (left : Picture) (bytes : List ℕ) (n : ℕ) → length left ≡ n → ((k : ℕ) → k < n → sector left k ≡ f k)
+pub each_more : (f : ℕ → List ℕ) (left : Image) (bytes : List ℕ) (n : ℕ) → length left ≡ n → ((k : ℕ) → k < n → sector left k ≡ f k)
     → bytes ≡ f n → (k : ℕ) → k < n + 1 → sector (left ++ bytes ∷ []) k ≡ f k
 each_more f left bytes n long so_far here k lt = elim (cases_lt k n) [
   | inl inside ↦ get_or_append_left left (bytes ∷ []) [] k (omega (arith, long, inside)) ∙ so_far k inside
@@ -143,7 +143,7 @@ number_next synced place number next is number_is is_is next_is =
     sum_again (unsynced_below synced place) (one_if (synced place)) number next number_is (next_is ∙ ap (λ (b : Bool). (number + one_if b) % 32) is_is)
     ∙ ap (λ (k : ℕ). unsynced_below synced k % 32) more
 
--- the picture goes on after a place that does not end it
+-- the image goes on after a place that does not end it
 pub there_more : (pick lasting place number d : ℕ) (synced : ℕ → Bool) → number ≡ unsynced_below synced place % 32 → d ≡ digit pick number
     → (lasting ≤ place → d ≢ 0) → ((k : ℕ) → lasting ≤ k → k < place → digit pick (unsynced_below synced k) ≢ 0)
     → (k : ℕ) → lasting ≤ k → k < place + 1 → digit pick (unsynced_below synced k) ≢ 0
@@ -162,17 +162,17 @@ ends_there pick number d place end synced number_is end_is d_is none =
     ap (λ (j : ℕ). digit pick (unsynced_below synced j)) end_is ∙ sym (digit_again pick (unsynced_below synced place))
     ∙ ap (digit pick) (sym number_is) ∙ sym d_is ∙ none
 
--- what was put together is the picture that the number picks
-pub picked_is : (pick : ℕ) (events : List Event) (picture : Picture) (lasting : ℕ) (synced : List Bool) (before left : Picture)
-    → lasting ≡ lasting_of (end_after None events) picture
-    → ((k : ℕ) → k < length picture → slice_index_or synced k true ≡ synced_after (λ j. true) events k)
-    → IsAsAtSync events picture before
-    → IsEndOf pick (λ j. slice_index_or synced j true) lasting (length picture) (length left)
-    → ((k : ℕ) → k < length left → sector left k ≡ left_at pick (λ j. slice_index_or synced j true) before picture k)
-    → IsPickedBy pick (memory_disk events picture) left
-picked_is pick events picture lasting synced before left is_lasting synced_is before_is ends each = record {
+-- what was put together is the image that the number picks
+pub picked_is : (pick : ℕ) (events : List Event) (image : Image) (lasting : ℕ) (synced : List Bool) (before left : Image)
+    → lasting ≡ lasting_of (end_after None events) image
+    → ((k : ℕ) → k < length image → slice_index_or synced k true ≡ synced_after (λ j. true) events k)
+    → IsAsAtSync events image before
+    → IsEndOf pick (λ j. slice_index_or synced j true) lasting (length image) (length left)
+    → ((k : ℕ) → k < length left → sector left k ≡ left_at pick (λ j. slice_index_or synced j true) before image k)
+    → IsPickedBy pick (memory_disk events image) left
+picked_is pick events image lasting synced before left is_lasting synced_is before_is ends each = record {
   sync = before_is.last;
-  last_sync = last_sync_is events picture before_is.last before_is.is_last;
+  last_sync = last_sync_is events image before_is.last before_is.is_last;
   ends = record {
     no_shorter = omega (arith, ends.no_shorter, is_lasting);
     no_longer = ends.no_longer;
@@ -180,15 +180,15 @@ picked_is pick events picture lasting synced before left is_lasting synced_is be
     gone = λ short. ap (digit pick) (sym (count (length left) ends.no_longer)) ∙ ends.gone short;
   };
   each = λ k lt.
-      let inside : k < length picture = omega (arith, lt, ends.no_longer) in
+      let inside : k < length image = omega (arith, lt, ends.no_longer) in
       rw (← count k (omega (arith, inside)), ← synced_is k inside, ← before_is.is) (each k lt);
 }
   where
-    count : (k : ℕ) → k ≤ length picture → unsynced_below (λ j. slice_index_or synced j true) k ≡ unsynced_below (synced_after (λ j. true) events) k
+    count : (k : ℕ) → k ≤ length image → unsynced_below (λ j. slice_index_or synced j true) k ≡ unsynced_below (synced_after (λ j. true) events) k
     count k le = unsynced_same _ _ k (λ j below. synced_is j (omega (arith, le, below)))
 
--- how often its writes failed says nothing of the picture
-picked_failed : (pick failed : ℕ) (disk : Disk) (left : Picture) → IsPickedBy pick disk left → IsPickedBy pick (with_failed disk failed) left
+-- how often its writes failed says nothing of the image
+picked_failed : (pick failed : ℕ) (disk : Disk) (left : Image) → IsPickedBy pick disk left → IsPickedBy pick (with_failed disk failed) left
 picked_failed pick failed disk left is = record {
   sync = is.sync;
   last_sync = record { past = is.last_sync.past; all = is.last_sync.all; later = is.last_sync.later };
@@ -197,25 +197,25 @@ picked_failed pick failed disk left is = record {
 }
 
 -- and it is one that a stop may leave
-pub picked_left : (pick failed : ℕ) (events : List Event) (picture left : Picture)
-    → IsPickedBy pick (with_failed (memory_disk events picture) failed) left → MayLeave (memory_disk events picture).now left
-picked_left pick failed events picture left is = stop_leaves events picture left is.ends.no_shorter is.ends.no_longer
+pub picked_left : (pick failed : ℕ) (events : List Event) (image left : Image)
+    → IsPickedBy pick (with_failed (memory_disk events image) failed) left → MayLeave (memory_disk events image).now left
+picked_left pick failed events image left is = stop_leaves events image left is.ends.no_shorter is.ends.no_longer
     (λ k lt synced. is.each k lt ∙ ap
-    (λ (b : Bool). if b then sector picture k else torn (digit pick (unsynced_below (synced_after (λ j. true) events) k))
-    ((k + pick / 4) % 256) (was_at (undone (drop is.sync events) picture) k) (sector picture k)) synced)
+    (λ (b : Bool). if b then sector image k else torn (digit pick (unsynced_below (synced_after (λ j. true) events) k))
+    ((k + pick / 4) % 256) (was_at (undone (drop is.sync events) image) k) (sector image k)) synced)
 
 -- the same from what the parts of `after_stop` were given
-pub picked_from : (pick failed : ℕ) (events events_1 events_2 events_3 : List Event) (picture picture_1 picture_2 : Picture)
-    (lasting long : ℕ) (synced synced_1 : List Bool) (before before_1 left : Picture)
-    → events_1 ≡ events → events_2 ≡ events → events_3 ≡ events → picture_1 ≡ picture → picture_2 ≡ picture → synced_1 ≡ synced
-    → before_1 ≡ before → long ≡ length picture
-    → ((p : Picture) → length p ≡ long → lasting ≡ lasting_of (end_after None events_3) p)
+pub picked_from : (pick failed : ℕ) (events events_1 events_2 events_3 : List Event) (image image_1 image_2 : Image)
+    (lasting long : ℕ) (synced synced_1 : List Bool) (before before_1 left : Image)
+    → events_1 ≡ events → events_2 ≡ events → events_3 ≡ events → image_1 ≡ image → image_2 ≡ image → synced_1 ≡ synced
+    → before_1 ≡ before → long ≡ length image
+    → ((p : Image) → length p ≡ long → lasting ≡ lasting_of (end_after None events_3) p)
     → ((k : ℕ) → k < long → slice_index_or synced k true ≡ synced_after (λ j. true) events_1 k)
-    → IsAsAtSync events_2 picture_1 before
-    → IsEndOf pick (λ j. slice_index_or synced_1 j true) lasting (length picture_2) (length left)
-    → ((k : ℕ) → k < length left → sector left k ≡ left_at pick (λ j. slice_index_or synced_1 j true) before_1 picture_2 k)
-    → IsPickedBy pick (with_failed (memory_disk events picture) failed) left
-picked_from pick failed events events_1 events_2 events_3 picture picture_1 picture_2 lasting long synced synced_1 before before_1 left e1 e2 e3 p1 p2 s1 b1 l lasts synced_is before_is ends each =
-    picked_failed pick failed (memory_disk events picture) left
-    (picked_is pick events picture lasting synced before left (rw e3 at (lasts picture (sym l))) (rw (e1, l) at synced_is)
+    → IsAsAtSync events_2 image_1 before
+    → IsEndOf pick (λ j. slice_index_or synced_1 j true) lasting (length image_2) (length left)
+    → ((k : ℕ) → k < length left → sector left k ≡ left_at pick (λ j. slice_index_or synced_1 j true) before_1 image_2 k)
+    → IsPickedBy pick (with_failed (memory_disk events image) failed) left
+picked_from pick failed events events_1 events_2 events_3 image image_1 image_2 lasting long synced synced_1 before before_1 left e1 e2 e3 p1 p2 s1 b1 l lasts synced_is before_is ends each =
+    picked_failed pick failed (memory_disk events image) left
+    (picked_is pick events image lasting synced before left (rw e3 at (lasts image (sym l))) (rw (e1, l) at synced_is)
     (rw (e2, p1) at before_is) (rw (p2, s1) at ends) (rw (p2, s1, b1) at each))

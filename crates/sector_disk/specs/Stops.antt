@@ -1,7 +1,7 @@
--- Which of the pictures that a stop may leave a number picks.
+-- Which of the images that a stop may leave a number picks.
 use Rattle.std.specs.Prelude.{◌≡◌, ◌≢◌, ℕ, zero, suc, ◌+◌, ◌/◌, ◌%◌, ◌^◌, ◌<◌, ◌≤◌, Bool, if◌then◌else◌, ◌==◌, List, ◌++◌, length}
 use Rattle.std.specs.Prelude.{take, drop, replicate, slice_index_or}
-use Rattle.sector_disk.specs.Disk.{Picture, sector, Disk, size, AllSynced}
+use Rattle.sector_disk.specs.Disk.{Image, sector, Disk, size, AllSynced}
 
 -- all was synced at this moment, and at no later one
 pub record IsLastSync (disk : Disk) (moment : ℕ) : Type 0 where
@@ -27,16 +27,16 @@ torn digit fill before written =
     else replicate 512 fill
 
 -- a sector as at the last sync: zeros where it was not there yet
-abbrev pub was_at : Picture → ℕ → List ℕ
+abbrev pub was_at : Image → ℕ → List ℕ
 was_at before k = slice_index_or before k (replicate 512 0)
 
 -- a sector after the stop that a number picks: the sectors that are not synced take its digits, by their place
-abbrev pub left_at : ℕ → (ℕ → Bool) → Picture → Picture → ℕ → List ℕ
+abbrev pub left_at : ℕ → (ℕ → Bool) → Image → Image → ℕ → List ℕ
 left_at pick synced before written k =
     if synced k then sector written k
     else torn (digit pick (unsynced_below synced k)) ((k + pick / 4) % 256) (was_at before k) (sector written k)
 
--- where the picture ends after the stop that a number picks: of the sectors that are new since the last sync the first with digit 0 is
+-- where the image ends after the stop that a number picks: of the sectors that are new since the last sync the first with digit 0 is
 -- not there, as at that sync, and none after it is
 pub record IsEndOf (pick : ℕ) (synced : ℕ → Bool) (lasting written end : ℕ) : Type 0 where
   pub no_shorter : lasting ≤ end
@@ -44,8 +44,8 @@ pub record IsEndOf (pick : ℕ) (synced : ℕ → Bool) (lasting written end : �
   pub there : (k : ℕ) → lasting ≤ k → k < end → digit pick (unsynced_below synced k) ≢ 0
   pub gone : end < written → digit pick (unsynced_below synced end) ≡ 0
 
--- the picture after the stop that a number picks
-pub record IsPickedBy (pick : ℕ) (disk : Disk) (left : Picture) : Type 0 where
+-- the image after the stop that a number picks
+pub record IsPickedBy (pick : ℕ) (disk : Disk) (left : Image) : Type 0 where
   pub sync : ℕ
   pub last_sync : IsLastSync disk sync
   pub ends : IsEndOf pick disk.now.synced disk.now.lasting (size disk) (length left)

@@ -1,6 +1,6 @@
 //! What a disk in memory keeps of its past: each write with the bytes that it wrote over, each sync, and each extension.
 ghost use Rattle.std.specs.Prelude.{◌≡◌, ◌<◌, nat_lt, ℕ, true, false, None, length, slice_index_or, if◌then◌else◌, IfOk};
-ghost use Rattle.sector_disk.specs.Disk.{Picture};
+ghost use Rattle.sector_disk.specs.Disk.{Image};
 ghost use Rattle.sector_disk.specs.Past.{before, synced_after, synced_by, end_by, end_after, lasting_of};
 ghost use Rattle.sector_disk.specs.lemmas.Log.{IsAsAtSync, IsLastSyncOf, last_by};
 
@@ -64,7 +64,7 @@ fn clear_from(synced: &mut Vec<bool>, end: usize)
 
 /// How many of this many sectors are there after a stop.
 pub fn lasting_sectors(events: &[Event], sectors: usize) -> usize
-    ensures { (picture : Picture) → length picture ≡ sectors → result ≡ lasting_of (end_after None events.now) picture }
+    ensures { (image : Image) → length image ≡ sectors → result ≡ lasting_of (end_after None events.now) image }
 {
     let mut end = None;
     for event in events {

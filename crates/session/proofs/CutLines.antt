@@ -5,13 +5,13 @@ use Rattle.std.proofs.lemmas.Bool.Decides.{eqb_tells}
 use Rattle.std.proofs.lemmas.List.Concat.{flat_map-append}
 use Rattle.std.proofs.lemmas.List.Elements.{All-nil, All-push}
 use Rattle.session_lines.specs.Asked.{IsBare}
-use Rattle.session.specs.Cut.{IsCutInto, IsOneLine, with_lf}
+use Rattle.session.specs.Cut.{IsCutInto, HasNoLineFeed, with_lf}
 
 -- of no bytes there is no line, and nothing waits
 pub no_lines : IsCutInto [] [] []
-no_lines = record { bytes_are = refl; single = All-nil IsOneLine }
+no_lines = record { bytes_are = refl; single = All-nil HasNoLineFeed }
 
-pub nothing_waits : IsOneLine []
+pub nothing_waits : HasNoLineFeed []
 nothing_waits = All-nil (λ byte. byte ≢ 10)
 
 -- what stands behind the last LF goes on
@@ -20,24 +20,24 @@ more_bytes {bytes} {rest} {lines} more are =
     record { bytes_are = ap (λ bs. bs ++ more) are.bytes_are ∙ append_assoc (flat_map with_lf lines) rest more; single = are.single }
 
 -- a byte that is no LF goes on with the line
-pub another_byte : (rest : List ℕ) (byte : ℕ) → IsOneLine rest → byte ≢ 10 → IsOneLine (rest ++ byte ∷ [])
+pub another_byte : (rest : List ℕ) (byte : ℕ) → HasNoLineFeed rest → byte ≢ 10 → HasNoLineFeed (rest ++ byte ∷ [])
 another_byte rest byte single other = All-push (λ b. b ≢ 10) rest byte single other
 
 -- LF ends what stands behind the last one
-pub another_line : {bytes rest : List ℕ} {lines : List (List ℕ)} → IsCutInto bytes lines rest → IsOneLine rest
+pub another_line : {bytes rest : List ℕ} {lines : List (List ℕ)} → IsCutInto bytes lines rest → HasNoLineFeed rest
     → IsCutInto (bytes ++ 10 ∷ []) (lines ++ rest ∷ []) []
 another_line {bytes} {rest} {lines} are single = record {
   bytes_are =
       let one : flat_map with_lf (rest ∷ []) ≡ rest ++ 10 ∷ [] = append-nil (rest ++ 10 ∷ []) in
       ap (λ bs. bs ++ 10 ∷ []) are.bytes_are ∙ append_assoc (flat_map with_lf lines) rest (10 ∷ [])
       ∙ sym (append-nil _ ∙ flat_map-append with_lf lines (rest ∷ []) ∙ ap (λ bs. flat_map with_lf lines ++ bs) one);
-  single = All-push IsOneLine lines rest are.single single;
+  single = All-push HasNoLineFeed lines rest are.single single;
 }
 
 -- a line alone
-pub one_line : {line : List ℕ} (behind : List ℕ) → IsOneLine line → IsCutInto (with_lf line ++ behind) (line ∷ []) behind
+pub one_line : {line : List ℕ} (behind : List ℕ) → HasNoLineFeed line → IsCutInto (with_lf line ++ behind) (line ∷ []) behind
 one_line {line} behind single =
-    record { bytes_are = ap (λ bs. bs ++ behind) (sym (append-nil (with_lf line))); single = All-push IsOneLine [] line (All-nil IsOneLine) single }
+    record { bytes_are = ap (λ bs. bs ++ behind) (sym (append-nil (with_lf line))); single = All-push HasNoLineFeed [] line (All-nil HasNoLineFeed) single }
 
 head_same : {x y : ℕ} {xs ys : List ℕ} → x ∷ xs ≡ y ∷ ys → x ≡ y
 head_same is = ap (λ (l : List ℕ). get_or l 0 0) is

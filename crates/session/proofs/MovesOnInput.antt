@@ -8,7 +8,7 @@ use Rattle.std.proofs.lemmas.List.{length-append}
 use Rattle.rbg_game.specs.Games.{Game}
 use Rattle.session_lines.specs.Answers.{TellsMovesAt, TellsRefusal}
 use Rattle.session_lines.specs.Asked.{IsBare}
-use Rattle.session_lines.specs.Parts.{AppendsPart, IsWritten}
+use Rattle.session_lines.specs.Parts.{AppendsPart, IsTextWritten}
 use Rattle.solver.specs.declared.fault.SolverFault.TheVariants.{BadPosition, OutOfMemory}
 use Rattle.session_lines.proofs.Appends.{appends_then, appends_nothing}
 use Rattle.session_lines.proofs.PartLemmas.{part_before, part_behind, whole_part, written_as}
@@ -62,8 +62,8 @@ taken_over old new bytes byte taken full same over = record {
 module _ (game : Game) where
   -- what is told of a line that was kept whole, and of one that was not
   pub tells_short : (line : PositionLine) (bytes bare : List ℕ) {before after : Option (List ℕ)} {status : ℕ} → HasTaken line bytes
-      → line.is_too_long ≡ false → IsBare line.bytes.items bare → IsWritten (TellsMovesAt game bare) before after status
-      → IsWritten (TellsPosition game bytes) before after status
+      → line.is_too_long ≡ false → IsBare line.bytes.items bare → IsTextWritten (TellsMovesAt game bare) before after status
+      → IsTextWritten (TellsPosition game bytes) before after status
   tells_short line bytes bare taken short is =
       written_as (λ own text tells. record {
         short = λ few. (bare, subst (λ bs. IsBare bs bare) (taken.kept short) is, tells);
@@ -71,7 +71,7 @@ module _ (game : Game) where
       })
 
   pub tells_long : (line : PositionLine) (bytes : List ℕ) {before after : Option (List ℕ)} {status : ℕ} → HasTaken line bytes → line.is_too_long ≡ true
-      → IsWritten (TellsRefusal BadPosition) before after status → IsWritten (TellsPosition game bytes) before after status
+      → IsTextWritten (TellsRefusal BadPosition) before after status → IsTextWritten (TellsPosition game bytes) before after status
   tells_long line bytes taken long =
       written_as (λ own text tells. record {
         short = λ few. absurd (omega (arith, few, (taken.long long).0));
@@ -79,31 +79,31 @@ module _ (game : Game) where
       })
 
   -- the empty line behind it was written, or not
-  pub blank_written : (line : List ℕ) {before mid after : Option (List ℕ)} (status : ℕ) → IsWritten (TellsPosition game line) before mid status → status ≢ 4
-      → Appends mid after (10 ∷ []) → IsWritten (AnswersPosition game line) before after status
-  blank_written line {before} {mid} {after} status (IsWritten.whole text tells wrote) other blank =
-      IsWritten.whole (text ++ 10 ∷ []) (text, tells, refl) (appends_then before mid after text (10 ∷ []) wrote blank)
-  blank_written line status (IsWritten.part own text tells part four) other blank = absurd (other four)
+  pub blank_written : (line : List ℕ) {before mid after : Option (List ℕ)} (status : ℕ) → IsTextWritten (TellsPosition game line) before mid status → status ≢ 4
+      → Appends mid after (10 ∷ []) → IsTextWritten (AnswersPosition game line) before after status
+  blank_written line {before} {mid} {after} status (IsTextWritten.whole text tells wrote) other blank =
+      IsTextWritten.whole (text ++ 10 ∷ []) (text, tells, refl) (appends_then before mid after text (10 ∷ []) wrote blank)
+  blank_written line status (IsTextWritten.part own text tells part four) other blank = absurd (other four)
 
-  pub blank_unwritten : (line : List ℕ) {before mid after : Option (List ℕ)} (status : ℕ) → IsWritten (TellsPosition game line) before mid status
-      → status ≢ 4 → AppendsPart mid after (10 ∷ []) → IsWritten (AnswersPosition game line) before after 4
-  blank_unwritten line status (IsWritten.whole text tells wrote) other blank =
-      IsWritten.part status (text ++ 10 ∷ []) (text, tells, refl) (part_behind text wrote blank) refl
-  blank_unwritten line status (IsWritten.part own text tells part four) other blank = absurd (other four)
+  pub blank_unwritten : (line : List ℕ) {before mid after : Option (List ℕ)} (status : ℕ) → IsTextWritten (TellsPosition game line) before mid status
+      → status ≢ 4 → AppendsPart mid after (10 ∷ []) → IsTextWritten (AnswersPosition game line) before after 4
+  blank_unwritten line status (IsTextWritten.whole text tells wrote) other blank =
+      IsTextWritten.part status (text ++ 10 ∷ []) (text, tells, refl) (part_behind text wrote blank) refl
+  blank_unwritten line status (IsTextWritten.part own text tells part four) other blank = absurd (other four)
 
-  pub blank_left_out : (line : List ℕ) {before after : Option (List ℕ)} (status : ℕ) → IsWritten (TellsPosition game line) before after status
-      → status ≡ 4 → IsWritten (AnswersPosition game line) before after 4
-  blank_left_out line {before} {after} status (IsWritten.whole text tells wrote) four =
-      IsWritten.part status (text ++ 10 ∷ []) (text, tells, refl) (part_before (10 ∷ []) (whole_part before after text wrote)) refl
-  blank_left_out line status (IsWritten.part own text tells part same) four =
-      IsWritten.part own (text ++ 10 ∷ []) (text, tells, refl) (part_before (10 ∷ []) part) refl
+  pub blank_left_out : (line : List ℕ) {before after : Option (List ℕ)} (status : ℕ) → IsTextWritten (TellsPosition game line) before after status
+      → status ≡ 4 → IsTextWritten (AnswersPosition game line) before after 4
+  blank_left_out line {before} {after} status (IsTextWritten.whole text tells wrote) four =
+      IsTextWritten.part status (text ++ 10 ∷ []) (text, tells, refl) (part_before (10 ∷ []) (whole_part before after text wrote)) refl
+  blank_left_out line status (IsTextWritten.part own text tells part same) four =
+      IsTextWritten.part own (text ++ 10 ∷ []) (text, tells, refl) (part_before (10 ∷ []) part) refl
 
   -- what is written behind a text
   behind : {Tells : ℕ → List ℕ → Type 0} (text : List ℕ) {before mid after : Option (List ℕ)} {status : ℕ} → Appends before mid text
-      → IsWritten Tells mid after status → IsWritten (λ own whole. (reply : List ℕ) × Tells own reply × (whole ≡ text ++ reply)) before after status
-  behind text {before} {mid} {after} wrote (IsWritten.whole reply tells more) =
-      IsWritten.whole (text ++ reply) (reply, tells, refl) (appends_then before mid after text reply wrote more)
-  behind text wrote (IsWritten.part own reply tells part four) = IsWritten.part own (text ++ reply) (reply, tells, refl) (part_behind text wrote part) four
+      → IsTextWritten Tells mid after status → IsTextWritten (λ own whole. (reply : List ℕ) × Tells own reply × (whole ≡ text ++ reply)) before after status
+  behind text {before} {mid} {after} wrote (IsTextWritten.whole reply tells more) =
+      IsTextWritten.whole (text ++ reply) (reply, tells, refl) (appends_then before mid after text reply wrote more)
+  behind text wrote (IsTextWritten.part own reply tells part four) = IsTextWritten.part own (text ++ reply) (reply, tells, refl) (part_behind text wrote part) four
 
   -- nothing is read yet
   pub none_read : (before : Option (List ℕ)) {line : PositionLine} → HasTaken line [] → ArePositionsUnderWay game [] before line before
@@ -134,14 +134,14 @@ module _ (game : Game) where
   }
 
   pub has_no_room : {bytes : List ℕ} {before mid after : Option (List ℕ)} {line : PositionLine} {status : ℕ} (byte : ℕ)
-      → ArePositionsUnderWay game bytes before line mid → IsWritten (TellsRefusal OutOfMemory) mid after status
+      → ArePositionsUnderWay game bytes before line mid → IsTextWritten (TellsRefusal OutOfMemory) mid after status
       → EndByLine game (bytes ++ byte ∷ []) before after status
   has_no_room byte way refused =
       EndByLine.no_memory way.lines (way.rest ++ byte ∷ []) way.text (more_bytes (byte ∷ []) way.cut) way.answers (behind way.text way.wrote refused)
 
   -- LF ends a line, which is answered
   pub line_told : {bytes : List ℕ} {before mid after : Option (List ℕ)} {line next : PositionLine} {status : ℕ}
-      → (way : ArePositionsUnderWay game bytes before line mid) → IsWritten (AnswersPosition game way.rest) mid after status → HasTaken next []
+      → (way : ArePositionsUnderWay game bytes before line mid) → IsTextWritten (AnswersPosition game way.rest) mid after status → HasTaken next []
       → (result : Option ℕ) → (1 < status → result ≡ Some status) → (status ≤ 1 → result ≡ None)
       → GoesOnByLine game (bytes ++ 10 ∷ []) before next after result
   line_told {bytes} {before} {mid} {after} {next = next} {status = status} way answered none result high low = elim (cases_lt 1 status) [
@@ -150,8 +150,8 @@ module _ (game : Game) where
     | inr few ↦ subst (GoesOnByLine game (bytes ++ 10 ∷ []) before next after) (sym (low few)) (goes_on answered few)
   ]
     where
-      goes_on : IsWritten (AnswersPosition game way.rest) mid after status → status ≤ 1 → ArePositionsUnderWay game (bytes ++ 10 ∷ []) before next after
-      goes_on (IsWritten.whole reply tells wrote) few = record {
+      goes_on : IsTextWritten (AnswersPosition game way.rest) mid after status → status ≤ 1 → ArePositionsUnderWay game (bytes ++ 10 ∷ []) before next after
+      goes_on (IsTextWritten.whole reply tells wrote) few = record {
         lines = way.lines ++ way.rest ∷ [];
         rest = [];
         text = way.text ++ reply;
@@ -161,7 +161,7 @@ module _ (game : Game) where
         answers = AnswersPositions.more way.rest status reply way.answers tells few;
         wrote = appends_then before mid after way.text reply way.wrote wrote;
       }
-      goes_on (IsWritten.part own reply tells part four) few = absurd (omega (arith, few, four))
+      goes_on (IsTextWritten.part own reply tells part four) few = absurd (omega (arith, few, four))
 
   -- what is read behind the end is not looked at
   ended_first : {bytes : List ℕ} {before after : Option (List ℕ)} {status : ℕ} (more : List ℕ) → EndByLine game bytes before after status
@@ -191,7 +191,7 @@ module _ (game : Game) where
 
   pub ended_in_a_line : {bytes : List ℕ} {left before mid after : Option (List ℕ)} {line : PositionLine} {own status : ℕ}
       → (way : ArePositionsUnderWay game bytes before line mid) → IsAtEnd left → way.rest ≢ []
-      → IsWritten (AnswersPosition game way.rest) mid after own → (1 < own → status ≡ own) → (own ≤ 1 → status ≡ 0)
+      → IsTextWritten (AnswersPosition game way.rest) mid after own → (1 < own → status ≡ own) → (own ≤ 1 → status ≡ 0)
       → AreMovesByLine game bytes left before after status
   ended_in_a_line {own = own} way at_end some answered high low =
       AreMovesByLine.last way.lines way.rest way.text own at_end way.cut way.single some way.answers (behind way.text way.wrote answered) high low

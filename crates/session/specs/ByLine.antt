@@ -4,9 +4,9 @@ use Rattle.std.specs.Io.KnownBytes.{Appends, IsAtEnd}
 use Rattle.rbg_game.specs.Games.{Game}
 use Rattle.session_lines.specs.Answers.{TellsMovesAt, TellsRefusal}
 use Rattle.session_lines.specs.Asked.{IsBare}
-use Rattle.session_lines.specs.Parts.{IsWritten}
+use Rattle.session_lines.specs.Parts.{IsTextWritten}
 use Rattle.solver.specs.declared.fault.SolverFault.TheVariants.{BadPosition, OutOfMemory}
-use Rattle.session.specs.Cut.{IsCutInto, IsOneLine}
+use Rattle.session.specs.Cut.{IsCutInto, HasNoLineFeed}
 use Rattle.session.specs.declared.position_line.PositionLine.{PositionLine}
 use Rattle.session.specs.declared.position_line.TheConstants.{MOST_BYTES}
 
@@ -45,9 +45,9 @@ module _ (game : Game) where
   --   no_memory  since memory ran out for the bytes of a line
   pub data EndByLine (bytes : List ℕ) (before after : Option (List ℕ)) (status : ℕ) : Type 0 where
     answered : (lines : List (List ℕ)) (line behind text : List ℕ) → IsCutInto bytes (lines ++ line ∷ []) behind → AnswersPositions lines text
-        → IsWritten (AnswersBehind text line) before after status → 1 < status → EndByLine bytes before after status
+        → IsTextWritten (AnswersBehind text line) before after status → 1 < status → EndByLine bytes before after status
     no_memory : (lines : List (List ℕ)) (rest text : List ℕ) → IsCutInto bytes lines rest → AnswersPositions lines text
-        → IsWritten (TellsNoMemory text) before after status → EndByLine bytes before after status
+        → IsTextWritten (TellsNoMemory text) before after status → EndByLine bytes before after status
 
   -- these bytes were read of an input in which this is left, and the answers ended with this status:
   --   within     within the bytes
@@ -58,8 +58,8 @@ module _ (game : Game) where
     within : EndByLine bytes before after status → AreMovesByLine bytes left before after status
     at_end : (lines : List (List ℕ)) (text : List ℕ) → IsAtEnd left → IsCutInto bytes lines [] → AnswersPositions lines text
         → Appends before after text → status ≡ 0 → AreMovesByLine bytes left before after status
-    last : (lines : List (List ℕ)) (rest text : List ℕ) (own : ℕ) → IsAtEnd left → IsCutInto bytes lines rest → IsOneLine rest → rest ≢ []
-        → AnswersPositions lines text → IsWritten (AnswersBehind text rest) before after own
+    last : (lines : List (List ℕ)) (rest text : List ℕ) (own : ℕ) → IsAtEnd left → IsCutInto bytes lines rest → HasNoLineFeed rest → rest ≢ []
+        → AnswersPositions lines text → IsTextWritten (AnswersBehind text rest) before after own
         → (1 < own → status ≡ own) → (own ≤ 1 → status ≡ 0) → AreMovesByLine bytes left before after status
     unread : (lines : List (List ℕ)) (rest text : List ℕ) → IsCutInto bytes lines rest → AnswersPositions lines text
         → Appends before after text → status ≡ 4 → AreMovesByLine bytes left before after status
@@ -70,7 +70,7 @@ module _ (game : Game) where
     pub rest : List ℕ
     pub text : List ℕ
     pub cut : IsCutInto bytes lines rest
-    pub single : IsOneLine rest
+    pub single : HasNoLineFeed rest
     pub taken : HasTaken line rest
     pub answers : AnswersPositions lines text
     pub wrote : Appends before after text

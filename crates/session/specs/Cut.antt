@@ -9,13 +9,13 @@ abbrev pub with_lf : List ℕ → List ℕ
 with_lf line = line ++ 10 ∷ []
 
 -- no LF is in it
-abbrev pub IsOneLine : List ℕ → Type 0
-IsOneLine = All (λ byte. byte ≢ 10)
+abbrev pub HasNoLineFeed : List ℕ → Type 0
+HasNoLineFeed = All (λ byte. byte ≢ 10)
 
 -- the bytes are these lines, each with an LF behind it, and then the rest
 pub record IsCutInto (bytes : List ℕ) (lines : List (List ℕ)) (rest : List ℕ) : Type 0 where
   pub bytes_are : bytes ≡ flat_map with_lf lines ++ rest
-  pub single : All IsOneLine lines
+  pub single : All HasNoLineFeed lines
 
 -- these bytes have come for the line so far, and it keeps them; of more than it keeps it knows that they are too many
 pub record HasRead (line : Line) (bytes : List ℕ) : Type 0 where

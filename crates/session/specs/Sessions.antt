@@ -19,7 +19,7 @@ use Rattle.session_lines.specs.declared.input.Asked.TheVariants as asked
 use Rattle.session_lines.specs.declared.input.Line.{Line}
 use Rattle.session_lines.specs.declared.input.ListingLine.{ListingLine}
 use Rattle.session.specs.Commands.{GivesBack, IsPrinted, IsUnopened, refused}
-use Rattle.session.specs.Cut.{IsCutInto, HasRead, IsOneLine}
+use Rattle.session.specs.Cut.{IsCutInto, HasRead, HasNoLineFeed}
 use Rattle.session.specs.Seen.{BeginsAt, Moment, Seen, Wrote, WrotePart, moment_at}
 use Rattle.session.specs.declared.line_by_line.Lines.{Lines}
 use Rattle.session.specs.declared.line_by_line.Lines.TheVariants.{Session, Look}
@@ -183,23 +183,23 @@ module _ {F Version : Type 0} (Stores : ℕ → Layout) (state : F → State)
     within : (status : ℕ) → EndsWithin bytes begins ends before after status
         → IsSession bytes begins ends left before after status
     at_end : (lines : List (List ℕ)) (rest text reply : List ℕ) (moments : List Moment) (moment : Moment)
-        (old : SessionState F Version) (status : ℕ) → IsCutInto bytes lines rest → IsOneLine rest → IsAtEnd left
+        (old : SessionState F Version) (status : ℕ) → IsCutInto bytes lines rest → HasNoLineFeed rest → IsAtEnd left
         → AnswersLines begins before.written lines text moments old → IsAnswerToLine AsItIs rest old ends status reply
         → BeginsAt before.written text (state ends.file).disk moment
         → Wrote before after (text ++ reply) (moments ++ moment ∷ [])
         → IsSession bytes begins ends left before after (status_at_end status)
     last_quits : (lines : List (List ℕ)) (rest text : List ℕ) (moments : List Moment) → IsCutInto bytes lines rest
-        → IsOneLine rest → IsAtEnd left → AnswersLines begins before.written lines text moments ends
+        → HasNoLineFeed rest → IsAtEnd left → AnswersLines begins before.written lines text moments ends
         → QuitsIn AsItIs rest → Wrote before after text moments
         → IsSession bytes begins ends left before after 0
     last_unwritten : (lines : List (List ℕ)) (rest text reply : List ℕ) (moments : List Moment) (moment : Moment)
-        (old : SessionState F Version) (status : ℕ) → IsCutInto bytes lines rest → IsOneLine rest → IsAtEnd left
+        (old : SessionState F Version) (status : ℕ) → IsCutInto bytes lines rest → HasNoLineFeed rest → IsAtEnd left
         → AnswersLines begins before.written lines text moments old → IsAnswerToLine AsItIs rest old ends status reply
         → BeginsAt before.written text (state ends.file).disk moment
         → WrotePart before after (text ++ reply) (moments ++ moment ∷ [])
         → IsSession bytes begins ends left before after 4
     unread : (lines : List (List ℕ)) (rest text : List ℕ) (moments : List Moment) → IsCutInto bytes lines rest
-        → IsOneLine rest → AnswersLines begins before.written lines text moments ends → Wrote before after text moments
+        → HasNoLineFeed rest → AnswersLines begins before.written lines text moments ends → Wrote before after text moments
         → IsSession bytes begins ends left before after 4
 
   -- a session is under way: these bytes were read, all their lines are answered, and what stands behind the last LF
@@ -211,7 +211,7 @@ module _ {F Version : Type 0} (Stores : ℕ → Layout) (state : F → State)
     pub text : List ℕ
     pub moments : List Moment
     pub are : IsCutInto bytes lines rest
-    pub single : IsOneLine rest
+    pub single : HasNoLineFeed rest
     pub come : HasRead line rest
     pub answers : AnswersLines begins before.written lines text moments now
     pub wrote : Wrote before after text moments

@@ -3,7 +3,7 @@ ghost use Rattle.std.specs.Prelude.{◌≡◌, ◌<◌, ◌≤◌, ◌∷◌, �
 ghost use Rattle.std.specs.Io.KnownBytes.{Consumes, IsAtEnd};
 ghost use Rattle.legal_moves.specs.Compiled.{compiled_game};
 ghost use Rattle.session_lines.specs.Asked.{IsBare};
-ghost use Rattle.session_lines.specs.Parts.{IsWritten};
+ghost use Rattle.session_lines.specs.Parts.{IsTextWritten};
 ghost use Rattle.session.specs.ByLine.{AnswersPosition, AreMovesByLine, ArePositionsUnderWay, GoesOnByLine};
 ghost use Rattle.session.specs.ByLine.{HasTaken, TellsPosition};
 
@@ -104,7 +104,7 @@ fn put_last<W: Write>(alloc: Global, book: &Rulebook, line: &PositionLine, out: 
 /// is 4 where the output failed.
 fn put_moves_of<W: Write>(alloc: Global, book: &Rulebook, line: &PositionLine, out: &mut W) -> u8
     ensures { (bytes : List ℕ) → HasTaken line.now bytes
-        → IsWritten (AnswersPosition (compiled_game book.now) bytes) (W.contents out.old) (W.contents out.new) result }
+        → IsTextWritten (AnswersPosition (compiled_game book.now) bytes) (W.contents out.old) (W.contents out.new) result }
 {
     let status = put_answer(alloc, book, line, out);
     if status == 4 {
@@ -119,7 +119,7 @@ fn put_moves_of<W: Write>(alloc: Global, book: &Rulebook, line: &PositionLine, o
 /// Writes the moves of the position on this line, without the empty line behind them.
 fn put_answer<W: Write>(alloc: Global, book: &Rulebook, line: &PositionLine, out: &mut W) -> u8
     ensures { (bytes : List ℕ) → HasTaken line.now bytes
-        → IsWritten (TellsPosition (compiled_game book.now) bytes) (W.contents out.old) (W.contents out.new) result }
+        → IsTextWritten (TellsPosition (compiled_game book.now) bytes) (W.contents out.old) (W.contents out.new) result }
 {
     if line.is_too_long {
         return write_refused(SolverFault::BadPosition, out);

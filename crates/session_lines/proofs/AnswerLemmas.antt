@@ -11,7 +11,7 @@ use Rattle.legal_moves.specs.Listed.{ShownMove, AreMoves, IsShownMove}
 use Rattle.position_pack.specs.Bytes.{bytes_of}
 use Rattle.session_lines.specs.lemmas.Lines.{HasPosition, SaysMoves}
 use Rattle.session_lines.specs.Answers.{IsListing, IsUntold, TellsMoves, TellsRefusal}
-use Rattle.session_lines.specs.Parts.{AppendsPart, IsWritten}
+use Rattle.session_lines.specs.Parts.{AppendsPart, IsTextWritten}
 use Rattle.session_lines.specs.lemmas.Stops.{IsStoppedLine, IsStopped}
 use Rattle.session_lines.specs.declared.move_lines.Stop.{Stop}
 use Rattle.session_lines.specs.declared.move_lines.Stop.TheVariants as stop
@@ -56,12 +56,12 @@ stopped_of game at moves Written Part (Err (stop.Refused why)) listing h =
 -- a refusal behind the lines that were written
 pub refused_behind : {before mid after : Option (List ℕ)} (game : Game) (at : Position) (why : SolverFault) (lines : List ℕ) (status : ℕ)
     → IsUntold game at why lines
-    → Appends before mid lines → IsWritten (TellsRefusal why) mid after status → IsWritten (TellsMoves game at) before after status
-refused_behind {before} {mid} {after} game at why lines status is wrote (IsWritten.whole text told appends) =
-    IsWritten.whole (lines ++ fault_line why) (subst (λ n. TellsMoves game at n (lines ++ fault_line why)) (sym told.0) (TellsMoves.untold why lines is))
+    → Appends before mid lines → IsTextWritten (TellsRefusal why) mid after status → IsTextWritten (TellsMoves game at) before after status
+refused_behind {before} {mid} {after} game at why lines status is wrote (IsTextWritten.whole text told appends) =
+    IsTextWritten.whole (lines ++ fault_line why) (subst (λ n. TellsMoves game at n (lines ++ fault_line why)) (sym told.0) (TellsMoves.untold why lines is))
     (appends_then before mid after lines (fault_line why) wrote (subst (Appends mid after) told.1 appends))
-refused_behind {before} {mid} {after} game at why lines status is wrote (IsWritten.part own text told part four) =
-    IsWritten.part (status_of why) (lines ++ fault_line why) (TellsMoves.untold why lines is)
+refused_behind {before} {mid} {after} game at why lines status is wrote (IsTextWritten.part own text told part four) =
+    IsTextWritten.part (status_of why) (lines ++ fault_line why) (TellsMoves.untold why lines is)
     (part_behind lines wrote (subst (AppendsPart mid after) told.1 part)) four
 
 pub nothing_left : {X : Type 0} (xs : List X) → length xs ≡ 0 → xs ≡ []

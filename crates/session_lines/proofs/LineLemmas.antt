@@ -10,7 +10,7 @@ use Rattle.position_pack.specs.Bytes.{bytes_of}
 use Rattle.position_pack.specs.Packings.{Form, form_of, IsPacked}
 use Rattle.position_pack.proofs.ShapeLemmas.{fits, is_position}
 use Rattle.legal_moves.specs.Listed.{ShownMove}
-use Rattle.session_lines.specs.Lines.{IsLine, line_of}
+use Rattle.session_lines.specs.Lines.{IsMoveLine, line_of}
 use Rattle.session_lines.specs.lemmas.Lines.{HasPosition}
 
 none : ShownMove
@@ -35,7 +35,7 @@ bytes_are game form at bytes is packed = (subst (λ f. IsPacked f at bytes) is p
 
 pub line_is : {E : Type 0} (game : Game) (found : Option ShownMove) (items : List ℕ) (pairs : List (ℕ × ℕ)) (next : Position) (r : Result (Vec ℕ Global) E)
     → option_map (λ m. m.next) found ≡ Some items → option_map (λ m. m.shown) found ≡ Some pairs → IsPositionOf game next → items ≡ bytes_of next
-    → IfOk r (λ line. line.items ≡ line_of game pairs next) → IfOk r (λ line. IfSome found (λ m. IsLine game m line.items))
+    → IfOk r (λ line. line.items ≡ line_of game pairs next) → IfOk r (λ line. IfSome found (λ m. IsMoveLine game m line.items))
 line_is game found items pairs next (Err e) en es position bytes h = tt
 line_is game None items pairs next (Ok line) en es position bytes h = tt
 line_is game (Some m) items pairs next (Ok line) en es position bytes h =

@@ -4,7 +4,7 @@ use Rattle.std.proofs.Math.Seq.{take-append-add}
 use Rattle.std.proofs.lemmas.List.{take-append-drop, take_all, length-take-le, length-drop}
 use Rattle.std.specs.Prelude.{Result, Ok, Err, OnErr, OnOk}
 use Rattle.std.specs.Io.KnownBytes.{Appends, Keeps}
-use Rattle.session_lines.specs.Parts.{AppendsPart, IsWritten}
+use Rattle.session_lines.specs.Parts.{AppendsPart, IsTextWritten}
 use Rattle.session_lines.proofs.Appends.{appends_then, appends_nothing, appends_and_keeps}
 
 -- nothing of it
@@ -115,6 +115,6 @@ line_all_by r Is Js before mid after whole leads more = on_ok_by r (λ done. (wh
 
 -- what tells the one tells the other
 pub written_as : {Tells Others : ℕ → List ℕ → Type 0} {old new : Option (List ℕ)} {status : ℕ}
-    → ((status : ℕ) (text : List ℕ) → Tells status text → Others status text) → IsWritten Tells old new status → IsWritten Others old new status
-written_as leads (IsWritten.whole text tells appends) = IsWritten.whole text (leads _ text tells) appends
-written_as leads (IsWritten.part own text tells part four) = IsWritten.part own text (leads own text tells) part four
+    → ((status : ℕ) (text : List ℕ) → Tells status text → Others status text) → IsTextWritten Tells old new status → IsTextWritten Others old new status
+written_as leads (IsTextWritten.whole text tells appends) = IsTextWritten.whole text (leads _ text tells) appends
+written_as leads (IsTextWritten.part own text tells part four) = IsTextWritten.part own text (leads own text tells) part four

@@ -4,7 +4,7 @@ use Rattle.std.specs.Prelude.{All, Option, Result, Ok, Err, IfErr, IfSome, IsErr
 use Rattle.std.specs.Io.KnownBytes.{Appends}
 use Rattle.rbg_game.specs.Games.{Game}
 use Rattle.legal_moves.specs.Listed.{ShownMove}
-use Rattle.session_lines.specs.Lines.{IsLine, AreLines, line_of}
+use Rattle.session_lines.specs.Lines.{IsMoveLine, AreLinesOfMoves, line_of}
 use Rattle.session_lines.specs.Parts.{AppendsPart}
 use Rattle.session_lines.specs.lemmas.Lines.{HasPosition}
 use Rattle.session_lines.specs.lemmas.Stops.{IsStoppedLine}
@@ -15,8 +15,8 @@ use Rattle.session_lines.proofs.PartLemmas.{part_before, part_behind}
 
 -- one line more
 pub one_more_line : (game : Game) (moves : List ShownMove) (k : ℕ) (written line : List ℕ) → k < length moves
-    → AreLines game (take k moves) written → IfSome (slice_get moves k) (λ m. IsLine game m line)
-    → AreLines game (take (k + 1) moves) (written ++ line)
+    → AreLinesOfMoves game (take k moves) written → IfSome (slice_get moves k) (λ m. IsMoveLine game m line)
+    → AreLinesOfMoves game (take (k + 1) moves) (written ++ line)
 one_more_line game [] k written line lt are is = absurd (omega (arith, lt))
 one_more_line game (m ∷ moves) zero written line lt are is = (line, [], ap (λ w. w ++ line) are ∙ sym (append-nil line), is, refl)
 one_more_line game (m ∷ moves) (suc k) written line lt are is =
@@ -25,7 +25,7 @@ one_more_line game (m ∷ moves) (suc k) written line lt are is =
     rw add-one (are.0, are.1 ++ line, ap (λ w. w ++ line) are.2 ∙ append_assoc are.0 are.1 line, are.3, next)
 
 -- moves whose successors are positions of the game have lines
-lines_there : (game : Game) (moves : List ShownMove) → All (HasPosition game) moves → (text : List ℕ) × AreLines game moves text
+lines_there : (game : Game) (moves : List ShownMove) → All (HasPosition game) moves → (text : List ℕ) × AreLinesOfMoves game moves text
 lines_there game [] positions = ([], refl)
 lines_there game (m ∷ moves) positions =
     let (next, is, bytes) = positions zero m (omega (arith)) in
@@ -34,8 +34,8 @@ lines_there game (m ∷ moves) positions =
 
 -- the lines before one, that one, and those behind it
 lines_around : (game : Game) (moves : List ShownMove) (k : ℕ) (written line : List ℕ) → k < length moves → All (HasPosition game) moves
-    → AreLines game (take k moves) written → IfSome (slice_get moves k) (λ m. IsLine game m line)
-    → (rest : List ℕ) × AreLines game moves (written ++ (line ++ rest))
+    → AreLinesOfMoves game (take k moves) written → IfSome (slice_get moves k) (λ m. IsMoveLine game m line)
+    → (rest : List ℕ) × AreLinesOfMoves game moves (written ++ (line ++ rest))
 lines_around game [] k written line lt positions are is = absurd (omega (arith, lt))
 lines_around game (m ∷ moves) zero written line lt positions are is =
     let (rest, more) = lines_there game moves (λ k d lt. positions (suc k) d (omega (arith, lt))) in
@@ -46,8 +46,8 @@ lines_around game (m ∷ moves) (suc k) written line lt positions are is =
 
 -- the lines before one and a part of it are a part of all
 pub lines_part : {before mid after : Option (List ℕ)} (game : Game) (moves : List ShownMove) (k : ℕ) (written line : List ℕ) → k < length moves
-    → All (HasPosition game) moves → AreLines game (take k moves) written → IfSome (slice_get moves k) (λ m. IsLine game m line)
-    → Appends before mid written → AppendsPart mid after line → (text : List ℕ) × AreLines game moves text × AppendsPart before after text
+    → All (HasPosition game) moves → AreLinesOfMoves game (take k moves) written → IfSome (slice_get moves k) (λ m. IsMoveLine game m line)
+    → Appends before mid written → AppendsPart mid after line → (text : List ℕ) × AreLinesOfMoves game moves text × AppendsPart before after text
 lines_part game moves k written line lt positions are is wrote of =
     let (rest, all) = lines_around game moves k written line lt positions are is in
     (written ++ (line ++ rest), all, part_behind written wrote (part_before rest of))
@@ -55,7 +55,7 @@ lines_part game moves k written line lt positions are is wrote of =
 -- memory ran out after some lines
 pub stopped : {X : Type 0} (game : Game) (moves : List ShownMove) (Says Written Part : List ℕ → Type 0) (r : Result X Stop)
     → IsErrAnd r (λ stop. stop ≡ Refused OutOfMemory)
-    → ((k : ℕ) × (lines : List ℕ) × AreLines game (take k moves) lines × Written lines) → IfErr r (IsStoppedLine game moves Says Written Part)
+    → ((k : ℕ) × (lines : List ℕ) × AreLinesOfMoves game (take k moves) lines × Written lines) → IfErr r (IsStoppedLine game moves Says Written Part)
 stopped game moves Says Written Part (Ok x) h lines = absurd h
 stopped game moves Says Written Part (Err e) h lines = rw h (refl, lines)
 

@@ -136,7 +136,7 @@ pub record SaysStatus (state : State) (line : List ℕ) : Type 0 where
   pub line_is : IsStatusLine counts line
 
 -- how many pages there are, and how many of them are free, never all; which number that is, `pages` of `put_answer` and `put_looked` say
-pub record SaysPages (state : State) (line : List ℕ) : Type 0 where
+pub record TellsPages (state : State) (line : List ℕ) : Type 0 where
   pub free : ℕ
   pub some : free < state.capacity
   pub line_is : line ≡ pages_line state.capacity free
@@ -171,7 +171,7 @@ module _ (Stores : ℕ → Layout) where
   IsReplied (asked.Listing about) old new status line = (new ≡ old) × (status ≡ 0) × (line ≡ codes "usage" ++ 10 ∷ [])
   IsReplied asked.Help old new status line = (new ≡ old) × (status ≡ 0) × (line ≡ codes "usage" ++ 10 ∷ [])
   IsReplied asked.Status old new status line = (new ≡ old) × (status ≡ 0) × SaysStatus old line
-  IsReplied asked.Pages old new status line = (new ≡ old) × (status ≡ 0) × SaysPages old line
+  IsReplied asked.Pages old new status line = (new ≡ old) × (status ≡ 0) × TellsPages old line
   IsReplied asked.Game old new status line = (new ≡ old) × IsGameReplied old status line
   IsReplied (asked.Work units) old new status line = IsWorkReplied (units_in units) old new status line
   IsReplied (asked.Question about) old new status line =

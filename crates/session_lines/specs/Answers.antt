@@ -9,7 +9,7 @@ use Rattle.position_pack.specs.Spelled.{IsSpelled}
 use Rattle.legal_moves.specs.Moves.{HasNoMove}
 use Rattle.legal_moves.specs.Searches.{IsWide}
 use Rattle.legal_moves.specs.Listed.{ShownMove, AreMoves, IsShortestMove}
-use Rattle.session_lines.specs.Lines.{AreLines}
+use Rattle.session_lines.specs.Lines.{AreLinesOfMoves}
 use Rattle.session_lines.specs.Told.{fault_line}
 use Rattle.solver.specs.Faults.{status_of}
 use Rattle.solver.specs.declared.fault.SolverFault.{SolverFault}
@@ -27,13 +27,13 @@ pub record IsListing (game : Game) (at : Position) (moves : List ShownMove) : Ty
 -- why the moves of a position are not all told, and the lines that were written before
 abbrev pub IsUntold : Game → Position → SolverFault → List ℕ → Type 0
 IsUntold game at OutOfMemory lines =
-    (lines ≡ []) ⊎ ((moves : List ShownMove) × (k : ℕ) × IsListing game at moves × AreLines game (take k moves) lines)
+    (lines ≡ []) ⊎ ((moves : List ShownMove) × (k : ℕ) × IsListing game at moves × AreLinesOfMoves game (take k moves) lines)
 IsUntold game at TooWide lines = (lines ≡ []) × IsWide game at
 IsUntold game at _ lines = ⊥
 
 -- the status and what is written of a position: the lines of its moves; `ended` where there is none; or why not all are told
 pub data TellsMoves (game : Game) (at : Position) : ℕ → List ℕ → Type 0 where
-  listed : (moves : List ShownMove) (lines : List ℕ) → IsListing game at moves → moves ≢ [] → AreLines game moves lines
+  listed : (moves : List ShownMove) (lines : List ℕ) → IsListing game at moves → moves ≢ [] → AreLinesOfMoves game moves lines
       → TellsMoves game at 0 lines
   ended : HasNoMove game at → TellsMoves game at 0 (codes "ended" ++ 10 ∷ [])
   untold : (why : SolverFault) (lines : List ℕ) → IsUntold game at why lines → TellsMoves game at (status_of why) (lines ++ fault_line why)
@@ -45,13 +45,13 @@ pub data TellsMovesAt (game : Game) (position : List ℕ) : ℕ → List ℕ →
   bad_position : ((at : Position) → ¬ IsSpelled game at position) → TellsMovesAt game position (status_of BadPosition) (fault_line BadPosition)
 
 -- why a game text is refused
-abbrev pub IsRefused : Text → SolverFault → Type 0
-IsRefused text OutOfMemory = ⊤
-IsRefused text (GameRefused faults.OutOfMemory) = ⊤
-IsRefused text (GameRefused fault) = Fault text fault
-IsRefused text _ = ⊥
+abbrev pub IsTextRefused : Text → SolverFault → Type 0
+IsTextRefused text OutOfMemory = ⊤
+IsTextRefused text (GameRefused faults.OutOfMemory) = ⊤
+IsTextRefused text (GameRefused fault) = Fault text fault
+IsTextRefused text _ = ⊥
 
 -- the status and what is written: what is told of the game that the text reads to, or why the text is refused
 pub data IsMovesAnswer (text : Text) (Tells : Game → ℕ → List ℕ → Type 0) : ℕ → List ℕ → Type 0 where
   told : (game : Game) (status : ℕ) (lines : List ℕ) → Reads text game → Tells game status lines → IsMovesAnswer text Tells status lines
-  refused : (why : SolverFault) → IsRefused text why → IsMovesAnswer text Tells (status_of why) (fault_line why)
+  refused : (why : SolverFault) → IsTextRefused text why → IsMovesAnswer text Tells (status_of why) (fault_line why)

@@ -18,13 +18,13 @@ abbrev pub line_of : Game → List (ℕ × ℕ) → Position → List ℕ
 line_of game shown next = flat_map (modifier_text game) shown ++ codes "=> " ++ text_of game next ++ 10 ∷ []
 
 -- the line of a move
-pub record IsLine (game : Game) (move : ShownMove) (line : List ℕ) : Type 0 where
+pub record IsMoveLine (game : Game) (move : ShownMove) (line : List ℕ) : Type 0 where
   pub next : Position
   pub position : IsPositionOf game next
   pub bytes_are : move.next ≡ bytes_of next
   pub written : line ≡ line_of game move.shown next
 
 -- the lines of moves, one after the other
-abbrev pub AreLines : Game → List ShownMove → List ℕ → Type 0
-AreLines game [] text = text ≡ []
-AreLines game (m ∷ ms) text = (line : List ℕ) × (rest : List ℕ) × (text ≡ line ++ rest) × IsLine game m line × AreLines game ms rest
+abbrev pub AreLinesOfMoves : Game → List ShownMove → List ℕ → Type 0
+AreLinesOfMoves game [] text = text ≡ []
+AreLinesOfMoves game (m ∷ ms) text = (line : List ℕ) × (rest : List ℕ) × (text ≡ line ++ rest) × IsMoveLine game m line × AreLinesOfMoves game ms rest

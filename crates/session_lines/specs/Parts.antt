@@ -11,9 +11,9 @@ pub record AppendsPart (before after : Option (List ℕ)) (text : List ℕ) : Ty
 
 -- this is told with a status: its text was written; or the output failed, a part of the text was written, from its start on, and the
 -- status is 4
-pub data IsWritten (Tells : ℕ → List ℕ → Type 0) (before after : Option (List ℕ)) (status : ℕ) : Type 0 where
-  whole : (text : List ℕ) → Tells status text → Appends before after text → IsWritten Tells before after status
-  part : (own : ℕ) (text : List ℕ) → Tells own text → AppendsPart before after text → status ≡ 4 → IsWritten Tells before after status
+pub data IsTextWritten (Tells : ℕ → List ℕ → Type 0) (before after : Option (List ℕ)) (status : ℕ) : Type 0 where
+  whole : (text : List ℕ) → Tells status text → Appends before after text → IsTextWritten Tells before after status
+  part : (own : ℕ) (text : List ℕ) → Tells own text → AppendsPart before after text → status ≡ 4 → IsTextWritten Tells before after status
 
 -- this is told with the status that is answered: its text was written; or the output failed, and a part of the text was written, from its
 -- start on

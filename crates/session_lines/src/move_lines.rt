@@ -4,7 +4,7 @@ ghost use Rattle.std.specs.Prelude.{◌≡◌, ◌<◌, ℕ, List, All, OnOk, If
 ghost use Rattle.std.specs.Io.KnownBytes.{Appends};
 ghost use Rattle.rbg_game.specs.Positions.{IsPositionOf};
 ghost use Rattle.legal_moves.specs.Compiled.{compiled_game, IsSoundCompiled};
-ghost use Rattle.session_lines.specs.Lines.{IsLine, AreLines};
+ghost use Rattle.session_lines.specs.Lines.{IsMoveLine, AreLinesOfMoves};
 ghost use Rattle.session_lines.specs.lemmas.Lines.{HasPosition, SaysMoves};
 ghost use Rattle.session_lines.specs.Answers.{TellsMoves};
 ghost use Rattle.session_lines.specs.lemmas.Stops.{IsStoppedLine, IsStopped};
@@ -105,9 +105,9 @@ fn write_lines<W: Write>(
 ) -> Result<(), Stop>
     requires compiled { IsSoundCompiled compiled.now }
     requires positions { All (HasPosition (compiled_game compiled.now)) moves.now }
-    ensures ok { OnOk result ((written : List ℕ) × AreLines (compiled_game compiled.now) moves.now written
+    ensures ok { OnOk result ((written : List ℕ) × AreLinesOfMoves (compiled_game compiled.now) moves.now written
         × Appends (W.contents out.old) (W.contents out.new) written) }
-    ensures stopped { IfErr result (IsStoppedLine (compiled_game compiled.now) moves.now (AreLines (compiled_game compiled.now) moves.now)
+    ensures stopped { IfErr result (IsStoppedLine (compiled_game compiled.now) moves.now (AreLinesOfMoves (compiled_game compiled.now) moves.now)
         (Appends (W.contents out.old) (W.contents out.new)) (AppendsPart (W.contents out.old) (W.contents out.new))) }
 {
     for k in 0..moves.len() {
@@ -127,7 +127,7 @@ fn line_at(
     requires compiled { IsSoundCompiled compiled.now }
     requires positions { All (HasPosition (compiled_game compiled.now)) moves.now }
     requires index { k < length moves.now }
-    ensures { IfOk result (λ line. IfSome (slice_get moves.now k) (λ m. IsLine (compiled_game compiled.now) m line.items)) }
+    ensures { IfOk result (λ line. IfSome (slice_get moves.now k) (λ m. IsMoveLine (compiled_game compiled.now) m line.items)) }
 {
     let word = moves.word(alloc, k)?;
     let packing = Packing::new(compiled.game(), PackingKind::Bytes);

@@ -33,8 +33,8 @@ use std::io::{self, Write};
 
 /// Writes the reply to a line at once, and gives the exit status that belongs to it: 0, or that of the
 /// refusal. A line without a word has no reply, and neither has `quit`. What a refusal means goes to `told`. A line about listings is
-/// answered `usage`, as where none are kept: whoever keeps them answers it by `put_listing`. The moment at which the reply begins is
-/// noted: what the line does is done then.
+/// answered `usage`: a caller that has listings answers it by `put_listing`. The moment at which the reply begins is noted, and by then
+/// the line's work is on the disk.
 pub fn put_answer<F: GameFile, W: Write, E: Write>(
     alloc: Global,
     solver: &mut FileSolver<F>,

@@ -1,7 +1,7 @@
 //! The line of a refusal, with its exit status.
 
 ghost use Rattle.session_lines.specs.Answers.{TellsRefusal};
-ghost use Rattle.session_lines.specs.Parts.{IsWritten};
+ghost use Rattle.session_lines.specs.Parts.{IsTextWritten};
 
 use crate::puts::put_refused;
 use solver::SolverFault;
@@ -9,7 +9,7 @@ use std::io::Write;
 
 /// Writes `refused` with the code, and gives the status that goes with it, or 4 where the output fails.
 pub fn write_refused<W: Write>(fault: SolverFault, out: &mut W) -> u8
-    ensures { IsWritten (TellsRefusal fault) (W.contents out.old) (W.contents out.new) result }
+    ensures { IsTextWritten (TellsRefusal fault) (W.contents out.old) (W.contents out.new) result }
 {
     match put_refused(out, fault) {
         Ok(()) => fault.status(),

@@ -8,8 +8,8 @@ ghost use Rattle.position_pack.specs.Spelled.{IsSpelled};
 ghost use Rattle.rbg_read.specs.Reads.{Reads};
 ghost use Rattle.legal_moves.specs.Compiled.{compiled_game, IsSoundCompiled};
 ghost use Rattle.legal_moves.specs.Moves.{start_of};
-ghost use Rattle.session_lines.specs.Answers.{TellsMoves, TellsMovesAt, IsRefused};
-ghost use Rattle.session_lines.specs.Parts.{IsWritten};
+ghost use Rattle.session_lines.specs.Answers.{TellsMoves, TellsMovesAt, IsTextRefused};
+ghost use Rattle.session_lines.specs.Parts.{IsTextWritten};
 
 use crate::move_lines::{Stop, write_moves};
 use crate::refusals::write_refused;
@@ -49,7 +49,7 @@ impl Rulebook {
     /// The game that a text reads to, or why there is none.
     pub fn read(alloc: Global, text: &[u8]) -> Result<Rulebook, SolverFault>
         ensures reads { IfOk result (λ book. Reads text.now (compiled_game book)) }
-        ensures refused { IfErr result (IsRefused text.now) }
+        ensures refused { IfErr result (IsTextRefused text.now) }
     {
         match compiled_of(alloc, text) {
             Ok(compiled) => Ok(Rulebook { compiled }),
@@ -68,7 +68,7 @@ impl Rulebook {
     /// Writes the moves of the start, one a line; `ended` where there is none; or `refused` and a code. Gives the exit status, which
     /// is 4 where the output failed.
     pub fn put_start_moves<W: Write>(&self, alloc: Global, out: &mut W) -> u8
-        ensures { IsWritten (TellsMoves (compiled_game self.now) (start_of (compiled_game self.now))) (W.contents out.old)
+        ensures { IsTextWritten (TellsMoves (compiled_game self.now) (start_of (compiled_game self.now))) (W.contents out.old)
             (W.contents out.new) result }
     {
         let start = self.compiled.start();
@@ -78,7 +78,7 @@ impl Rulebook {
     /// Writes the moves of the position with this text, as `put_start_moves` does those of the start; or `refused S10` where it is
     /// the text of no position of the game.
     pub fn put_moves_at<W: Write>(&self, alloc: Global, position: &[u8], out: &mut W) -> u8
-        ensures { IsWritten (TellsMovesAt (compiled_game self.now) position.now) (W.contents out.old) (W.contents out.new) result }
+        ensures { IsTextWritten (TellsMovesAt (compiled_game self.now) position.now) (W.contents out.old) (W.contents out.new) result }
     {
         match read_position(self.compiled.game(), position) {
             Some(at) => self.put_moves(alloc, &at, out),
@@ -89,7 +89,7 @@ impl Rulebook {
     /// Writes the moves of a position, as `put_start_moves` does those of the start.
     fn put_moves<W: Write>(&self, alloc: Global, at: &Position, out: &mut W) -> u8
         requires { IsPositionOf (compiled_game self.now) at.now }
-        ensures { IsWritten (TellsMoves (compiled_game self.now) at.now) (W.contents out.old) (W.contents out.new) result }
+        ensures { IsTextWritten (TellsMoves (compiled_game self.now) at.now) (W.contents out.old) (W.contents out.new) result }
     {
         match write_moves(alloc, &self.compiled, at, out) {
             Ok(()) => 0,
@@ -103,7 +103,7 @@ impl Rulebook {
 fn compiled_of(alloc: Global, text: &[u8]) -> Result<Compiled, SolverFault>
     ensures reads { IfOk result (λ compiled. Reads text.now (compiled_game compiled)) }
     ensures sound { IfOk result IsSoundCompiled }
-    ensures refused { IfErr result (IsRefused text.now) }
+    ensures refused { IfErr result (IsTextRefused text.now) }
 {
     let game = match read_game(alloc, text) {
         Ok(game) => game,

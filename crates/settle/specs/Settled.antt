@@ -16,6 +16,6 @@ pub record HasSettled (graph : Graph (List ℕ)) (IsWide : List ℕ → Type 0) 
       → (s : ℕ) × (r : Record) × (w : Player) × Settles graph old new s r w
 
 -- s is the next, has this record, and w wins it; and it is written of s that it is processed, and no more
-pub record IsMarked (old new : Stored (List ℕ)) (s : ℕ) (r : Record) (w : Player) : Type 0 where
+pub record IsMarkedProcessed (old new : Stored (List ℕ)) (s : ℕ) (r : Record) (w : Player) : Type 0 where
   pub next : IsNextSettled old s r w
   pub marked : new ≡ with_processed_alone s r old

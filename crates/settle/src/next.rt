@@ -5,7 +5,7 @@ ghost use Rattle.table.specs.Frames.{IsWritten};
 ghost use Rattle.table.specs.declared.limits.TheConstants.{PAGES_PER_ENTRY};
 ghost use Rattle.frontier.specs.Frames.{IsGivenUp};
 ghost use Rattle.frontier.specs.declared.fault.StepFault.TheVariants.{Inconsistent};
-ghost use Rattle.settle.specs.Settled.{IsMarked};
+ghost use Rattle.settle.specs.Settled.{IsMarkedProcessed};
 
 use frontier::StepFault;
 use rbg_game::roles::Player;
@@ -24,7 +24,7 @@ pub struct Settled {
 pub fn process_next<T: Table>(table: &mut T) -> Result<Settled, StepFault>
     requires { (T.counted table.old).processed < (T.counted table.old).settled }
     ensures marked { T.is_honest table.old → IfOk result (λ next.
-        IsMarked (T.stored table.old) (T.stored table.new) next.number next.kept next.winner) }
+        IsMarkedProcessed (T.stored table.old) (T.stored table.new) next.number next.kept next.winner) }
     ensures consistent { T.is_honest table.old → IsTable (T.stored table.old) → result ≡ Err Inconsistent → ⊥ }
     ensures ok { OnOk result (IsWritten T.is_honest T.counted T.goes_on table.old table.new) }
     ensures err { IfErr result (IsGivenUp T.goes_on T.fails table.old table.new) }

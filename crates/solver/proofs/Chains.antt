@@ -1,9 +1,9 @@
 -- What is left after the sittings of a history is a table that they lead to, and reopening gives it.
 use Rattle.std.proofs.Common.{◌≡◌, inl, inr, ℕ, List, [], ◌∷◌, ◌++◌, Option, None, refl, sym, subst}
 use Rattle.std.specs.Prelude.{IsTrue}
-use Rattle.sector_disk.specs.Disk.{Picture, Shown, Disk, MayLeave}
+use Rattle.sector_disk.specs.Disk.{Image, Shown, Disk, MayLeave}
 use Rattle.sector_disk.specs.lemmas.Moments.{reads_left, still_honest, leaves_at}
-use Rattle.root_pair.specs.Root.{IsTablePicture}
+use Rattle.root_pair.specs.Root.{IsTableImage}
 use Rattle.game_file.specs.Kept.{Kept, Layout, in_any}
 use Rattle.game_file.specs.State.{State}
 use Rattle.game_file.specs.Stops.{LeavesNow}
@@ -25,32 +25,32 @@ lead_more (s ∷ sittings) sitting old mid new (begins, (all, (left, may, rest))
 
 module _ (Stores : ℕ → Layout) where
   -- a table that the sittings lead to, stored
-  abbrev IsLeft : Option Kept → List Sitting → Picture → Type 0
-  IsLeft begins sittings picture = (kept : Option Kept) × LeadTo sittings begins kept × in_any Stores picture kept
+  abbrev IsLeft : Option Kept → List Sitting → Image → Type 0
+  IsLeft begins sittings image = (kept : Option Kept) × LeadTo sittings begins kept × in_any Stores image kept
 
   history_leads : {begins : Option Kept} {sittings : List Sitting} {left : Shown} → IsSound begins → HistoryFrom Stores begins sittings left
-      → (picture : Picture) → MayLeave left picture → IsLeft begins sittings picture
-  history_leads sound (was_made {disk} {count} {was} {sitting} {left} honest created sits) picture may =
+      → (image : Image) → MayLeave left image → IsLeft begins sittings image
+  history_leads sound (was_made {disk} {count} {was} {sitting} {left} honest created sits) image may =
       let none : was.kept ≡ None = created.empty honest in
       let (kept, leads, stores) =
       sitting_leads Stores was sitting left sits (still_honest created.from.goes_on honest) (subst (λ (k : Option Kept). IsSound k) (sym none) tt)
-      (subst (λ (k : Option Kept). LeavesNow (Stores was.capacity) was.disk k) (sym none) (created.now honest)) picture may in
+      (subst (λ (k : Option Kept). LeavesNow (Stores was.capacity) was.disk k) (sym none) (created.now honest)) image may in
       (kept, subst (λ (k : Option Kept). LeadTo (sitting ∷ []) k kept) none leads, stores)
-  history_leads {begins} sound (was_left stored) picture may = (begins, refl, stored picture may)
-  history_leads sound (was_found {disk} {count} {was} {sitting} {left} honest opened sits) picture may =
+  history_leads {begins} sound (was_left stored) image may = (begins, refl, stored image may)
+  history_leads sound (was_found {disk} {count} {was} {sitting} {left} honest opened sits) image may =
       let (kept, leads, stores) =
-      sitting_leads Stores was sitting left sits (still_honest opened.from.goes_on honest) sound (opened.now honest) picture may in
+      sitting_leads Stores was sitting left sits (still_honest opened.from.goes_on honest) sound (opened.now honest) image may in
       (kept, leads, stores)
-  history_leads sound (was_reopened {begins} {sittings} {before} {left} {disk} {count} {was} {sitting} history found opened sits) picture may =
+  history_leads sound (was_reopened {begins} {sittings} {before} {left} {disk} {count} {was} {sitting} history found opened sits) image may =
       let (old, led, stored) = history_leads sound history disk.now.contents (found.as_left disk.now.contents (reads_left disk)) in
       let now_sound = what_sittings_lead_to_is_sound sittings begins old led sound in
       let same : was.kept ≡ old = opened.only found.honest old (a_sound_table_is_held (in_any Stores) disk.now.contents old stored now_sound) in
       let (kept, leads, stores) =
       sitting_leads Stores was sitting left sits (still_honest opened.from.goes_on found.honest)
-      (subst (λ (k : Option Kept). IsSound k) (sym same) now_sound) (opened.now found.honest) picture may in
+      (subst (λ (k : Option Kept). IsSound k) (sym same) now_sound) (opened.now found.honest) image may in
       (kept, lead_more sittings sitting begins old kept led (subst (λ (k : Option Kept). LeadTo (sitting ∷ []) k kept) same leads), stores)
-  history_leads sound (was_not_opened history found leaves stop) picture may =
-      history_leads sound history picture (found.as_left picture (leaves_at leaves stop picture may))
+  history_leads sound (was_not_opened history found leaves stop) image may =
+      history_leads sound history image (found.as_left image (leaves_at leaves stop image may))
 
   -- a disk that holds a table is opened with it
   pub opened_so : (disk : Disk) (count : ℕ) (state : State) (kept : Option Kept) → IsTrue disk.honest
@@ -60,7 +60,7 @@ module _ (Stores : ℕ → Layout) where
       let same = opened.only honest kept holds in
       (same, subst (λ (k : Option Kept). LeavesNow (Stores state.capacity) state.disk k) same (opened.now honest))
 
-  module _ (begins : (pages : ℕ) (picture : Picture) (kept : Option Kept) → Stores pages picture kept → IsTablePicture picture) where
+  module _ (begins : (pages : ℕ) (image : Image) (kept : Option Kept) → Stores pages image kept → IsTableImage image) where
     -- or that is refused for want of memory or for a fault of the disk
     pub opens_or_fails : (disk : Disk) (before now : ℕ) (kept : Option Kept) (fault : SolverFault) → IsTrue disk.honest
         → Holds (in_any Stores) disk.now.contents kept
@@ -86,25 +86,25 @@ module _ (Stores : ℕ → Layout) where
     opens_or_fails disk before now kept ListingsUsedUp honest holds cause = absurd cause
     opens_or_fails disk before now kept BadPosition honest holds cause = absurd cause
 
-    -- reopening gives the table that a picture holds
-    pub reopens : (picture : Picture) (kept : Option Kept) → Holds (in_any Stores) picture kept → Reopens Stores picture kept
-    reopens picture kept holds = record {
+    -- reopening gives the table that an image holds
+    pub reopens : (image : Image) (kept : Option Kept) → Holds (in_any Stores) image kept → Reopens Stores image kept
+    reopens image kept holds = record {
       holds = holds;
       gives = λ disk count state honest reads opened.
-          opened_so disk count state kept honest (subst (λ (p : Picture). Holds (in_any Stores) p kept) (sym reads) holds) opened;
+          opened_so disk count state kept honest (subst (λ (p : Image). Holds (in_any Stores) p kept) (sym reads) holds) opened;
       fails = λ disk before now fault honest reads cause.
-          opens_or_fails disk before now kept fault honest (subst (λ (p : Picture). Holds (in_any Stores) p kept) (sym reads) holds) cause;
+          opens_or_fails disk before now kept fault honest (subst (λ (p : Image). Holds (in_any Stores) p kept) (sym reads) holds) cause;
     }
 
     -- the headline, of each table that is locally sound as it begins
-    pub the_headline_from : (begins : Option Kept) (sittings : List Sitting) (left : Shown) (picture : Picture) → IsSound begins
-        → HistoryFrom Stores begins sittings left → MayLeave left picture → HeadlineFrom Stores begins sittings picture
-    the_headline_from begins sittings left picture sound history may =
-        let (kept, leads, stores) = history_leads sound history picture may in
+    pub the_headline_from : (begins : Option Kept) (sittings : List Sitting) (left : Shown) (image : Image) → IsSound begins
+        → HistoryFrom Stores begins sittings left → MayLeave left image → HeadlineFrom Stores begins sittings image
+    the_headline_from begins sittings left image sound history may =
+        let (kept, leads, stores) = history_leads sound history image may in
         let now_sound = what_sittings_lead_to_is_sound sittings begins kept leads sound in
-        (kept, leads, reopens picture kept (a_sound_table_is_held (in_any Stores) picture kept stores now_sound), a_sound_table_is_exact kept now_sound)
+        (kept, leads, reopens image kept (a_sound_table_is_held (in_any Stores) image kept stores now_sound), a_sound_table_is_exact kept now_sound)
 
     -- of a table that was made
-    pub the_headline : (sittings : List Sitting) (left : Shown) (picture : Picture) → History Stores sittings left → MayLeave left picture
-        → Headline Stores sittings picture
-    the_headline sittings left picture history may = the_headline_from None sittings left picture tt history may
+    pub the_headline : (sittings : List Sitting) (left : Shown) (image : Image) → History Stores sittings left → MayLeave left image
+        → Headline Stores sittings image
+    the_headline sittings left image history may = the_headline_from None sittings left image tt history may

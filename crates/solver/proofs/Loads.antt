@@ -42,7 +42,7 @@ pub put_stops : (Stores : ℕ → Layout) (is : Kept) (old new : State) → Leav
 put_stops Stores is old new leaves goes_on put = record {
   is_open = put.is_open;
   since = λ honest. leaves_more
-      (λ picture either. subst (λ (kept : Option Kept). Stores old.capacity picture old.kept ⊎ Stores old.capacity picture kept) (sym (put.kept honest)) either)
+      (λ image either. subst (λ (kept : Option Kept). Stores old.capacity image old.kept ⊎ Stores old.capacity image kept) (sym (put.kept honest)) either)
       (put.leaves honest);
   now = λ honest. leaves (still_honest goes_on honest) put.is_open;
 }

@@ -2,10 +2,10 @@
 use Rattle.std.proofs.Common.{◌≡◌, ◌≤◌, inl, inr, ℕ, Option, sym, ◌∙◌, subst, arith}
 use Rattle.std.specs.Prelude.{IsTrue, Result, Ok, Err}
 use Rattle.std.specs.Result.{IfErr, IfOk, OnOk}
-use Rattle.sector_disk.specs.Disk.{Picture, Disk, LeavesOnly, MayLeave, Grew}
+use Rattle.sector_disk.specs.Disk.{Image, Disk, LeavesOnly, MayLeave, Grew}
 use Rattle.sector_disk.specs.declared.disk.SectorDisk.{Ghosts as OfDisk}
 use Rattle.sector_disk.specs.lemmas.Moments.{goes_on_trans, leaves_then, leaves_more, still_honest}
-use Rattle.root_pair.specs.Root.{IsTablePicture}
+use Rattle.root_pair.specs.Root.{IsTableImage}
 use Rattle.game_file.specs.Calls.{IsOpenedFile, IsNotOpened, IsCreatedFile, IsNotCreated, IsAsked}
 use Rattle.game_file.specs.Causes.{FileOpenCause, FileCreateCause}
 use Rattle.game_file.specs.Kept.{Kept, Layout, Older, in_any}
@@ -28,17 +28,17 @@ use Rattle.solver.proofs.Chains.{opened_so, opens_or_fails}
 use Rattle.solver.proofs.Loads.{Leaves}
 use Rattle.solver.proofs.Refusals.{apart}
 
--- a picture stores one table at most, in whatever number of pages
+-- an image stores one table at most, in whatever number of pages
 abbrev pub StoresOne : (ℕ → Layout) → Type 0
-StoresOne Stores = (m n : ℕ) (picture : Picture) (one other : Option Kept) → Stores m picture one → Stores n picture other → one ≡ other
+StoresOne Stores = (m n : ℕ) (image : Image) (one other : Option Kept) → Stores m image one → Stores n image other → one ≡ other
 
--- a picture of an earlier layout stores none
+-- an image of an earlier layout stores none
 abbrev pub OlderStoresNone : (ℕ → Layout) → Older → Type 0
-OlderStoresNone Stores IsOlder = (pages : ℕ) (picture : Picture) (kept : Option Kept) → IsOlder picture → Stores pages picture kept → ⊥
+OlderStoresNone Stores IsOlder = (pages : ℕ) (image : Image) (kept : Option Kept) → IsOlder image → Stores pages image kept → ⊥
 
--- a picture that stores a table begins as each table does
+-- an image that stores a table begins as each table does
 abbrev pub StoresBegins : (ℕ → Layout) → Type 0
-StoresBegins Stores = (pages : ℕ) (picture : Picture) (kept : Option Kept) → Stores pages picture kept → IsTablePicture picture
+StoresBegins Stores = (pages : ℕ) (image : Image) (kept : Option Kept) → Stores pages image kept → IsTableImage image
 
 -- a count that grew from a later one on grew
 grew_from : {before mid now : ℕ} → before ≤ mid → Grew mid now → Grew before now
@@ -77,7 +77,7 @@ module _ (Stores : ℕ → Layout) (disk : Disk) (count : ℕ) (file : State) wh
           → LeavesOnly disk later.disk (MayLeave disk.now)
       since found asked honest =
           leaves_then asked.ahead.goes_on (found.leaves honest)
-          (leaves_more (λ picture left. (found.leaves honest).present picture left)
+          (leaves_more (λ image left. (found.leaves honest).present image left)
           (asked.leaves (still_honest found.from.goes_on honest)))
 
   -- the disk as it comes back, because the text is no game or a position is not one of its positions
@@ -89,7 +89,7 @@ module _ (Stores : ℕ → Layout) (disk : Disk) (count : ℕ) (file : State) wh
         from = from_first found.from it.later it.asked;
         leaves = λ honest.
             leaves_then it.asked.ahead.goes_on (found.leaves honest)
-            (leaves_more (λ picture left. (found.leaves honest).present picture left)
+            (leaves_more (λ image left. (found.leaves honest).present image left)
             (it.asked.leaves (still_honest found.from.goes_on honest)));
       }))
 
@@ -136,7 +136,7 @@ module _ (Stores : ℕ → Layout) (disk : Disk) (count : ℕ) (file : State) wh
   created_since made {later} asked honest =
       subst (λ (pages : ℕ). LeavesOnly disk later.disk (OldOrEmpty (Stores pages) disk.now)) (sym asked.ahead.capacity)
       (leaves_then asked.ahead.goes_on (made.leaves honest)
-      (leaves_more (λ picture left. (made.leaves honest).present picture left)
+      (leaves_more (λ image left. (made.leaves honest).present image left)
       (asked.leaves (still_honest made.from.goes_on honest))))
 
   pub created : IsCreatedFile Stores disk count file → (later : State) → IsAsked Stores file later → Leaves Stores later → IsCreated Stores disk count later
@@ -147,9 +147,9 @@ module _ (Stores : ℕ → Layout) (disk : Disk) (count : ℕ) (file : State) wh
     empty = λ honest. asked.kept (still_honest made.from.goes_on honest) ∙ made.empty honest;
     fresh = made.fresh;
     since = created_since made asked;
-    now = λ honest picture left.
-        subst (λ (kept : Option Kept). Stores later.capacity picture kept) (asked.kept (still_honest made.from.goes_on honest) ∙ made.empty honest)
-        (leaves (still_honest (goes_on_trans made.from.goes_on asked.ahead.goes_on) honest) (asked.closed ∙ made.is_open) picture left);
+    now = λ honest image left.
+        subst (λ (kept : Option Kept). Stores later.capacity image kept) (asked.kept (still_honest made.from.goes_on honest) ∙ made.empty honest)
+        (leaves (still_honest (goes_on_trans made.from.goes_on asked.ahead.goes_on) honest) (asked.closed ∙ made.is_open) image left);
   }
 
   pub created_back : (back : Disk) (now : ℕ) → IsCreatedFile Stores disk count file → IsHandedBack Stores file back now

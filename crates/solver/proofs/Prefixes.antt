@@ -2,7 +2,7 @@
 use Rattle.std.proofs.Common.{◌≡◌, ◌⊎◌, inl, inr, ℕ, ◌≤◌, ◌<◌, Bool, true, false, List, [], ◌∷◌, ◌++◌, map, Option, None, Some, refl, sym, ◌∙◌, ap, subst, arith}
 use Rattle.std.specs.Prelude.{IsTrue}
 use Rattle.std.proofs.lemmas.Bool.{cases_lt}
-use Rattle.sector_disk.specs.Disk.{Picture, Shown, GoesOn, MayLeave, StopsIn, at_moment, at_present}
+use Rattle.sector_disk.specs.Disk.{Image, Shown, GoesOn, MayLeave, StopsIn, at_moment, at_present}
 use Rattle.sector_disk.specs.lemmas.Moments.{still_honest, goes_on_refl, goes_on_trans, leaves_at, leaves_now}
 use Rattle.rbg_read.specs.Reads.{Reads}
 use Rattle.position_pack.specs.declared.kind.PackingKind.{PackingKind}
@@ -144,69 +144,69 @@ module _ (Stores : ℕ → Layout) where
   IsInAGrowth (in_a_command turn stop) = ⊥
 
   -- what is left of a table in a sitting: it is stored in this many pages, and the sitting leads to it
-  record IsLeft (in_doubt : Option Command) (last : State) (pages : ℕ) (picture : Picture) (kept : Option Kept) : Type 0 where
+  record IsLeft (in_doubt : Option Command) (last : State) (pages : ℕ) (image : Image) (kept : Option Kept) : Type 0 where
     may : DoesInDoubt in_doubt last.kept kept
-    stores : Stores pages picture kept
+    stores : Stores pages image kept
 
-  either : (command : Command) (last : State) (next : Option Kept) (picture : Picture) → MayDo command last.kept next
-      → Stores last.capacity picture last.kept ⊎ Stores last.capacity picture next
-      → (kept : Option Kept) × IsLeft (Some command) last last.capacity picture kept
-  either command last next picture does (inl stores) = (last.kept, record { may = (Refused DiskFailed, refl); stores = stores })
-  either command last next picture does (inr stores) = (next, record { may = does; stores = stores })
+  either : (command : Command) (last : State) (next : Option Kept) (image : Image) → MayDo command last.kept next
+      → Stores last.capacity image last.kept ⊎ Stores last.capacity image next
+      → (kept : Option Kept) × IsLeft (Some command) last last.capacity image kept
+  either command last next image does (inl stores) = (last.kept, record { may = (Refused DiskFailed, refl); stores = stores })
+  either command last next image does (inr stores) = (next, record { may = does; stores = stores })
 
   in_command : {moment : ℕ} {left : Shown} (b : Bool) (command : Command) (reply : Reply) (last is : State) → IsTurn Stores command reply last is
-      → last.closed ≡ false → is.closed ≡ b → IsFit last → StopsIn last.disk is.disk moment left → (picture : Picture) → MayLeave left picture
-      → (kept : Option Kept) × IsLeft (Some command) last last.capacity picture kept
-  in_command false command reply last is turn open_ its_state fit stop picture may =
-      either command last is.kept picture (reply, turn.does fit.honest) (leaves_at (turn.between fit.honest open_ its_state) stop picture may)
-  in_command true command reply last is turn open_ its_state fit stop picture may =
+      → last.closed ≡ false → is.closed ≡ b → IsFit last → StopsIn last.disk is.disk moment left → (image : Image) → MayLeave left image
+      → (kept : Option Kept) × IsLeft (Some command) last last.capacity image kept
+  in_command false command reply last is turn open_ its_state fit stop image may =
+      either command last is.kept image (reply, turn.does fit.honest) (leaves_at (turn.between fit.honest open_ its_state) stop image may)
+  in_command true command reply last is turn open_ its_state fit stop image may =
       let (next, does, leaves) = (turn.failed open_ its_state).leaves fit.honest in
-      either command last next picture does (leaves_at leaves stop picture may)
+      either command last next image does (leaves_at leaves stop image may)
 
   -- it is left in as many pages as the last state has, but in a growth
-  record IsLeftBehind {last : State} {in_doubt : Option Command} {left : Shown} (ends : Ends Stores last in_doubt left) (picture : Picture) : Type 0 where
+  record IsLeftBehind {last : State} {in_doubt : Option Command} {left : Shown} (ends : Ends Stores last in_doubt left) (image : Image) : Type 0 where
     kept : Option Kept
     pages : ℕ
-    is : IsLeft in_doubt last pages picture kept
+    is : IsLeft in_doubt last pages image kept
     as_many : (IsInAGrowth ends → ⊥) → pages ≡ last.capacity
 
   ends_left : {last : State} {in_doubt : Option Command} {left : Shown} (ends : Ends Stores last in_doubt left) → last.closed ≡ false → IsFit last
-      → (picture : Picture) → MayLeave left picture → IsLeftBehind ends picture
-  ends_left {last} (by_closing stop) open_ fit picture left = record {
+      → (image : Image) → MayLeave left image → IsLeftBehind ends image
+  ends_left {last} (by_closing stop) open_ fit image left = record {
     kept = last.kept;
     pages = last.capacity;
-    is = record { may = refl; stores = leaves_at (leaves_now last.disk fit.leaves) stop picture left };
+    is = record { may = refl; stores = leaves_at (leaves_now last.disk fit.leaves) stop image left };
     as_many = λ not. refl;
   }
-  ends_left {last} (in_a_question asked stop) open_ fit picture left = record {
+  ends_left {last} (in_a_question asked stop) open_ fit image left = record {
     kept = last.kept;
     pages = last.capacity;
-    is = record { may = refl; stores = leaves_at (asked.since fit.honest open_) stop picture left };
+    is = record { may = refl; stores = leaves_at (asked.since fit.honest open_) stop image left };
     as_many = λ not. refl;
   }
-  ends_left {last} (in_a_growth {pages} {is} growth stop) open_ fit picture left =
-      elim (leaves_at (growth.between fit.honest open_) stop picture left) [
+  ends_left {last} (in_a_growth {pages} {is} growth stop) open_ fit image left =
+      elim (leaves_at (growth.between fit.honest open_) stop image left) [
         | inl before ↦ record { kept = last.kept; pages = last.capacity; is = record { may = refl; stores = before }; as_many = λ not. refl }
         | inr after ↦ record { kept = last.kept; pages = pages; is = record { may = refl; stores = after }; as_many = λ not. absurd (not tt) }
       ]
-  ends_left {last} (in_a_command {asked} {reply} {is} turn stop) open_ fit picture left =
-      let (kept, it) = in_command is.closed asked reply last is turn open_ refl fit stop picture left in
+  ends_left {last} (in_a_command {asked} {reply} {is} turn stop) open_ fit image left =
+      let (kept, it) = in_command is.closed asked reply last is turn open_ refl fit stop image left in
       record { kept = kept; pages = last.capacity; is = it; as_many = λ not. refl }
 
   -- what is left of a sitting is a table that it leads to, in some number of pages
-  record IsLedTo (was : State) (sitting : Sitting) (left : Shown) (it : IsSitting Stores was sitting left) (picture : Picture) : Type 0 where
+  record IsLedTo (was : State) (sitting : Sitting) (left : Shown) (it : IsSitting Stores was sitting left) (image : Image) : Type 0 where
     kept : Option Kept
     pages : ℕ
     leads : LeadTo (sitting ∷ []) was.kept kept
-    stores : Stores pages picture kept
+    stores : Stores pages image kept
     as_many : (IsInAGrowth it.ends → ⊥) → pages ≡ it.last.capacity
 
   led_to : (was : State) (sitting : Sitting) (left : Shown) (it : IsSitting Stores was sitting left) → IsTrue was.disk.honest
       → IsSound was.kept → LeavesNow (Stores was.capacity) was.disk was.kept
-      → (picture : Picture) → MayLeave left picture → IsLedTo was sitting left it picture
-  led_to was sitting left it honest sound leaves picture may =
+      → (image : Image) → MayLeave left image → IsLedTo was sitting left it image
+  led_to was sitting left it honest sound leaves image may =
       let (all, fit) = used_does it.used it.is_open (record { honest = honest; sound = sound; leaves = leaves }) in
-      let behind = ends_left it.ends it.is_open fit picture may in
+      let behind = ends_left it.ends it.is_open fit image may in
       record {
         kept = behind.kept;
         pages = behind.pages;
@@ -223,22 +223,22 @@ module _ (Stores : ℕ → Layout) where
 
   pub sitting_leads : (was : State) (sitting : Sitting) (left : Shown) → IsSitting Stores was sitting left → IsTrue was.disk.honest
       → IsSound was.kept → LeavesNow (Stores was.capacity) was.disk was.kept
-      → (picture : Picture) → MayLeave left picture → (kept : Option Kept) × LeadTo (sitting ∷ []) was.kept kept × in_any Stores picture kept
-  sitting_leads was sitting left it honest sound leaves picture may =
-      let led = led_to was sitting left it honest sound leaves picture may in
+      → (image : Image) → MayLeave left image → (kept : Option Kept) × LeadTo (sitting ∷ []) was.kept kept × in_any Stores image kept
+  sitting_leads was sitting left it honest sound leaves image may =
+      let led = led_to was sitting left it honest sound leaves image may in
       (led.kept, led.leads, (led.pages, led.stores))
 
   -- what is left of one in which nothing grows holds the table in as many pages, and what that says is so
   sitting_holds : (was : State) (sitting : Sitting) (left : Shown) (it : IsSitting Stores was sitting left)
       → it.last.capacity ≡ was.capacity → (IsInAGrowth it.ends → ⊥)
       → IsTrue was.disk.honest → IsSound was.kept → LeavesNow (Stores was.capacity) was.disk was.kept
-      → (picture : Picture) → MayLeave left picture → (kept : Option Kept) × LeadTo (sitting ∷ []) was.kept kept
-      × Holds (Stores was.capacity) picture kept × IsExact kept
-  sitting_holds was sitting left it steady apart honest sound leaves picture may =
-      let led = led_to was sitting left it honest sound leaves picture may in
+      → (image : Image) → MayLeave left image → (kept : Option Kept) × LeadTo (sitting ∷ []) was.kept kept
+      × Holds (Stores was.capacity) image kept × IsExact kept
+  sitting_holds was sitting left it steady apart honest sound leaves image may =
+      let led = led_to was sitting left it honest sound leaves image may in
       let sound_now = what_sittings_lead_to_is_sound (sitting ∷ []) was.kept led.kept led.leads sound in
-      let stores = subst (λ (pages : ℕ). Stores pages picture led.kept) (led.as_many apart ∙ steady) led.stores in
-      (led.kept, led.leads, a_sound_table_is_held (Stores was.capacity) picture led.kept stores sound_now, a_sound_table_is_exact led.kept sound_now)
+      let stores = subst (λ (pages : ℕ). Stores pages image led.kept) (led.as_many apart ∙ steady) led.stores in
+      (led.kept, led.leads, a_sound_table_is_held (Stores was.capacity) image led.kept stores sound_now, a_sound_table_is_exact led.kept sound_now)
 
   -- the states of a run are those of one disk
   turns_go_on : (commands : List Command) (replies : List Reply) (was is : State) → Turns Stores commands replies was is → GoesOn was.disk is.disk
@@ -352,7 +352,7 @@ module _ (Stores : ℕ → Layout) where
         cut.sitting,
         cut.part,
         cut.sits,
-        λ picture may.
-            sitting_holds was cut.sitting shown cut.sits cut.steady cut.apart honest sound (run.begins honest open_) picture may,
+        λ image may.
+            sitting_holds was cut.sitting shown cut.sits cut.steady cut.apart honest sound (run.begins honest open_) image may,
       ) in
       (run.added, run.replies_are, subst (λ (cs : List Asked). LeavesAPrefix Stores (map command_of cs) run.added was is) all left)

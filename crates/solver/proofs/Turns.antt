@@ -86,11 +86,11 @@ module _ (Stores : ℕ → Layout) where
       turn = record {
         does = it.step.does;
         ahead = ahead;
-        between = λ honest was is. leaves_more (λ picture stores. inl stores) (it.stops.since honest is);
-        at = λ honest was is picture left.
-            subst (λ (pages : ℕ). Stores pages picture new.kept) (sym ahead.capacity)
-            (subst (λ (kept : Option Kept). Stores old.capacity picture kept) (sym (it.stops.same honest))
-            ((it.stops.since honest is).present picture left));
+        between = λ honest was is. leaves_more (λ image stores. inl stores) (it.stops.since honest is);
+        at = λ honest was is image left.
+            subst (λ (pages : ℕ). Stores pages image new.kept) (sym ahead.capacity)
+            (subst (λ (kept : Option Kept). Stores old.capacity image kept) (sym (it.stops.same honest))
+            ((it.stops.since honest is).present image left));
         failed = λ was is. record {
           reply_is = ap Refused (is_disk fault old.closed new.closed it.still was is);
           leaves = λ honest. it.stops.failed honest was is;

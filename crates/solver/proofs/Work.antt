@@ -237,7 +237,7 @@ idle_done Stores state source k made loaded units done now counts works same cou
   };
   stops = record {
     is_open = is_open;
-    since = λ honest. leaves_now state.disk (λ picture left. inl (leaves honest is_open picture left));
+    since = λ honest. leaves_now state.disk (λ image left. inl (leaves honest is_open image left));
     now = λ honest. leaves honest is_open;
   };
 }
@@ -331,7 +331,7 @@ module _ (Stores : ℕ → Layout) (old new : State) (source : Compiled) (k : Ke
         goal = given.goal;
         same = given.kept;
         since = λ honest open_. given.leaves honest is_open;
-        failed = λ honest was is. (old.kept, (Refused (step_fault fault), refl), leaves_more (λ picture left. inl left) (given.leaves honest is_open));
+        failed = λ honest was is. (old.kept, (Refused (step_fault fault), refl), leaves_more (λ image left. inl left) (given.leaves honest is_open));
       };
       still = by_fault fault left;
     }

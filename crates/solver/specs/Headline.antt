@@ -1,6 +1,6 @@
 -- The headline: what a stop of the power leaves of a table in the course of many commands, and what that says of the game.
 use Rattle.std.specs.Prelude.{◌≡◌, ◌⊎◌, ◌↔◌, ℕ, ◌≤◌, ◌<◌, true, false, List, [], ◌∷◌, Option, None, Some, IsTrue}
-use Rattle.sector_disk.specs.Disk.{Picture, Shown, Disk, MayLeave, StopsIn, Grew}
+use Rattle.sector_disk.specs.Disk.{Image, Shown, Disk, MayLeave, StopsIn, Grew}
 use Rattle.rbg_game.specs.Games.{Game}
 use Rattle.rbg_game.specs.declared.roles.Player.{Player}
 use Rattle.rbg_read.specs.Reads.{Reads}
@@ -40,22 +40,22 @@ abbrev pub IsUnlucky : ℕ → ℕ → SolverFault → Type 0
 IsUnlucky before now fault = ((fault ≡ DiskFailed) × Grew before now) ⊎ (fault ≡ OutOfMemory)
 
 module _ (Stores : ℕ → Layout) where
-  -- reopening gives this table: an honest disk that reads as the picture is opened with it, and every stop then leaves it; or `open`
+  -- reopening gives this table: an honest disk that reads as the image is opened with it, and every stop then leaves it; or `open`
   -- is refused because the disk failed or memory ran out, and for nothing else
-  pub record Reopens (picture : Picture) (kept : Option Kept) : Type 0 where
-    pub holds : Holds (in_any Stores) picture kept
-    pub gives : (disk : Disk) (count : ℕ) (state : State) → IsTrue disk.honest → disk.now.contents ≡ picture
+  pub record Reopens (image : Image) (kept : Option Kept) : Type 0 where
+    pub holds : Holds (in_any Stores) image kept
+    pub gives : (disk : Disk) (count : ℕ) (state : State) → IsTrue disk.honest → disk.now.contents ≡ image
         → IsOpened Stores disk count state → (state.kept ≡ kept) × LeavesNow (Stores state.capacity) state.disk kept
-    pub fails : (disk : Disk) (before now : ℕ) (fault : SolverFault) → IsTrue disk.honest → disk.now.contents ≡ picture
+    pub fails : (disk : Disk) (before now : ℕ) (fault : SolverFault) → IsTrue disk.honest → disk.now.contents ≡ image
         → OpenCause Stores disk before now fault → IsUnlucky before now fault
 
   -- whenever the power stops after these sittings, the table that reopening gives is the one that the last of them reached behind its last
   -- answer, or what the command in doubt may do to that; each began with what the one before left so; and what the table says is so
-  abbrev pub HeadlineFrom : Option Kept → List Sitting → Picture → Type 0
-  HeadlineFrom begins sittings picture = (kept : Option Kept) × LeadTo sittings begins kept × Reopens picture kept × IsExact kept
+  abbrev pub HeadlineFrom : Option Kept → List Sitting → Image → Type 0
+  HeadlineFrom begins sittings image = (kept : Option Kept) × LeadTo sittings begins kept × Reopens image kept × IsExact kept
 
   -- the headline of a table that begins empty
-  abbrev pub Headline : List Sitting → Picture → Type 0
+  abbrev pub Headline : List Sitting → Image → Type 0
   Headline = HeadlineFrom None
 
   -- what of a run is answered at this moment: the first of its commands, each with its reply, in states of the run that come no later;
@@ -78,5 +78,5 @@ module _ (Stores : ℕ → Layout) where
       (moment : ℕ) (left : Shown) → StopsIn old.disk new.disk moment left
       → (sitting : Sitting) × IsAnsweredBy moment sitting.answered sitting.in_doubt commands replies old new
       × IsSitting Stores old sitting left
-      × ((picture : Picture) → MayLeave left picture
-      → (kept : Option Kept) × LeadTo (sitting ∷ []) old.kept kept × Holds (Stores old.capacity) picture kept × IsExact kept)
+      × ((image : Image) → MayLeave left image
+      → (kept : Option Kept) × LeadTo (sitting ∷ []) old.kept kept × Holds (Stores old.capacity) image kept × IsExact kept)

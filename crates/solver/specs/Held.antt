@@ -1,6 +1,6 @@
--- The table that a picture holds, and the one that is to be trusted.
+-- The table that an image holds, and the one that is to be trusted.
 use Rattle.std.specs.Prelude.{ℕ, List, Option, None, Some}
-use Rattle.sector_disk.specs.Disk.{Picture}
+use Rattle.sector_disk.specs.Disk.{Image}
 use Rattle.rbg_game.specs.Games.{Game}
 use Rattle.rbg_read.specs.Reads.{Reads}
 use Rattle.legal_moves.specs.Sources.{IsWideAt, graph_of}
@@ -29,9 +29,9 @@ IsOfAGame None = Unit {0}
 IsOfAGame (Some kept) = (game : Game) × IsOf game kept
 
 module _ (Stores : Layout) where
-  -- the picture stores this table, and it is a game's: what `open` gives
-  pub record Holds (picture : Picture) (kept : Option Kept) : Type 0 where
-    pub stores : Stores picture kept
+  -- the image stores this table, and it is a game's: what `open` gives
+  pub record Holds (image : Image) (kept : Option Kept) : Type 0 where
+    pub stores : Stores image kept
     pub of_a_game : IsOfAGame kept
 
 -- no game is loaded, or the table is locally sound for the game that the text reads to

@@ -1,6 +1,6 @@
 -- All that may come of a table in many sittings, each of which a stop of the power may end.
 use Rattle.std.specs.Prelude.{◌≡◌, ℕ, false, List, [], ◌∷◌, ◌++◌, Option, None, Some, IsTrue}
-use Rattle.sector_disk.specs.Disk.{Picture, Shown, Disk, LeavesOnly, MayLeave, StopsIn}
+use Rattle.sector_disk.specs.Disk.{Image, Shown, Disk, LeavesOnly, MayLeave, StopsIn}
 use Rattle.game_file.specs.Calls.{IsAsked}
 use Rattle.game_file.specs.Kept.{Kept, Layout, in_any}
 use Rattle.game_file.specs.State.{State}
@@ -70,7 +70,7 @@ module _ (Stores : ℕ → Layout) where
   -- an honest disk as it is found after a stop: nothing can be left of it that the stop could not leave
   pub record IsFound (left : Shown) (disk : Disk) : Type 0 where
     pub honest : IsTrue disk.honest
-    pub as_left : (picture : Picture) → MayLeave disk.now picture → MayLeave left picture
+    pub as_left : (image : Image) → MayLeave disk.now image → MayLeave left image
 
   -- the sittings of a table that began as this one, and what the disk shows after them. It was made: `create` has answered Ok, and the
   -- first sitting goes on from there. It was left: whatever stop has come, the disk holds it. Or it was found, and opened. Another sitting
@@ -78,7 +78,7 @@ module _ (Stores : ℕ → Layout) where
   pub data HistoryFrom : Option Kept → List Sitting → Shown → Type 0 where
     was_made : {disk : Disk} {count : ℕ} {was : State} {sitting : Sitting} {left : Shown} → IsTrue disk.honest
         → IsCreated Stores disk count was → IsSitting was sitting left → HistoryFrom None (sitting ∷ []) left
-    was_left : {begins : Option Kept} {left : Shown} → ((picture : Picture) → MayLeave left picture → in_any Stores picture begins)
+    was_left : {begins : Option Kept} {left : Shown} → ((image : Image) → MayLeave left image → in_any Stores image begins)
         → HistoryFrom begins [] left
     was_found : {disk : Disk} {count : ℕ} {was : State} {sitting : Sitting} {left : Shown} → IsTrue disk.honest
         → IsOpened Stores disk count was → IsSitting was sitting left → HistoryFrom was.kept (sitting ∷ []) left

@@ -1,7 +1,7 @@
 -- What `open` and `create` give.
 use Rattle.std.specs.Prelude.{◌≡◌, ◌<◌, ℕ, false, Option, None, IsTrue}
 use Rattle.sector_disk.specs.Disk.{Disk, size, LeavesOnly, MayLeave, Grew}
-use Rattle.root_pair.specs.Root.{Begins, IsTablePicture}
+use Rattle.root_pair.specs.Root.{BeginsAsTable, IsTableImage}
 use Rattle.game_file.specs.Kept.{Kept, Layout, Older, in_any}
 use Rattle.game_file.specs.State.{State, GoesFrom, pages_of}
 use Rattle.game_file.specs.Stops.{LeavesNow, OldOrEmpty}
@@ -28,7 +28,7 @@ module _ (Stores : ℕ → Layout) where
     pub capacity : state.capacity ≡ pages_of disk
     pub is_open : state.closed ≡ false
     pub empty : IsTrue disk.honest → state.kept ≡ None
-    pub fresh : IsTrue disk.honest → ¬ Begins disk.now.contents
+    pub fresh : IsTrue disk.honest → ¬ BeginsAsTable disk.now.contents
     pub since : IsTrue disk.honest → LeavesOnly disk state.disk (OldOrEmpty (Stores state.capacity) disk.now)
     pub now : IsTrue disk.honest → LeavesNow (Stores state.capacity) state.disk None
 
@@ -36,9 +36,9 @@ module _ (Stores : ℕ → Layout) where
   -- so that it stores none; or memory ran out
   abbrev pub OpenCause : Disk → ℕ → ℕ → SolverFault → Type 0
   OpenCause disk before now DiskFailed = Grew before now
-  OpenCause disk before now NotATable = IsTrue disk.honest → ¬ IsTablePicture disk.now.contents
+  OpenCause disk before now NotATable = IsTrue disk.honest → ¬ IsTableImage disk.now.contents
   OpenCause disk before now Damaged =
-      IsTrue disk.honest → IsTablePicture disk.now.contents × ((kept : Option Kept) → ¬ Holds (in_any Stores) disk.now.contents kept)
+      IsTrue disk.honest → IsTableImage disk.now.contents × ((kept : Option Kept) → ¬ Holds (in_any Stores) disk.now.contents kept)
   OpenCause disk before now OldLayout = IsTrue disk.honest → (kept : Option Kept) → ¬ in_any Stores disk.now.contents kept
   OpenCause disk before now OutOfMemory = Unit {0}
   OpenCause disk before now _ = ⊥
@@ -53,8 +53,8 @@ LayoutCause IsOlder disk _ = Unit {0}
 abbrev pub CreateCause : Disk → ℕ → ℕ → SolverFault → Type 0
 CreateCause disk before now DiskFailed = Grew before now
 CreateCause disk before now NotATable = ¬ IsTrue disk.honest
-CreateCause disk before now AlreadyATable = IsTrue disk.honest → Begins disk.now.contents
+CreateCause disk before now AlreadyATable = IsTrue disk.honest → BeginsAsTable disk.now.contents
 CreateCause disk before now Damaged = ¬ IsTrue disk.honest
-CreateCause disk before now TooSmall = (size disk < 128) × (IsTrue disk.honest → ¬ Begins disk.now.contents)
+CreateCause disk before now TooSmall = (size disk < 128) × (IsTrue disk.honest → ¬ BeginsAsTable disk.now.contents)
 CreateCause disk before now OutOfMemory = Unit {0}
 CreateCause disk before now _ = ⊥

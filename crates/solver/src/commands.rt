@@ -1,7 +1,7 @@
 //! A solver over a disk.
 ghost use Rattle.std.specs.Prelude.{◌≡◌, ◌≤◌, ◌↔◌, ℕ, List, true, false, Option, None, option_map};
 ghost use Rattle.std.specs.Prelude.{IsSome, IsOk, OnOk, IfOk, IfErr, IsErrOf, IsTrue};
-ghost use Rattle.sector_disk.specs.Disk.{Picture};
+ghost use Rattle.sector_disk.specs.Disk.{Image};
 ghost use Rattle.retrograde.specs.Changes.{counts_of};
 ghost use Rattle.rbg_game.specs.Goals.{points_of};
 ghost use Rattle.game_file.specs.Kept.{Kept};
@@ -33,7 +33,7 @@ pub struct FileSolver<F: GameFile> {
     /// The game, where one is loaded.
     pub(crate) source: Option<Source>,
     // says nothing, but names the layout, so that contracts can write `state self` and need no path through a trait
-    ghost layout: { (pages : ℕ) (picture : Picture) (kept : Option Kept) → F.stores pages picture kept → Unit {0} },
+    ghost layout: { (pages : ℕ) (image : Image) (kept : Option Kept) → F.stores pages image kept → Unit {0} },
 }
 
 impl<F: GameFile> FileSolver<F> {

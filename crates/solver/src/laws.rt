@@ -1,6 +1,6 @@
 //! What holds of every table that a solver keeps: each is a law, which proofs cite by a call, or by the lemma of the same name in specs/.
 ghost use Rattle.std.specs.Prelude.{◌≡◌, ◌⊎◌, ◌↔◌, ℕ, true, false, List, Option, None, Some, IsTrue};
-ghost use Rattle.sector_disk.specs.Disk.{Picture, Shown, Disk, MayLeave};
+ghost use Rattle.sector_disk.specs.Disk.{Image, Shown, Disk, MayLeave};
 ghost use Rattle.rbg_game.specs.Games.{Game};
 ghost use Rattle.rbg_game.specs.declared.roles.Player.{Player};
 ghost use Rattle.rbg_read.specs.Reads.{Reads};
@@ -29,22 +29,22 @@ ghost use Rattle.solver.specs.declared.replies.Reply.TheVariants.{Refused};
 
 use game_file::GameFile;
 
-/// A picture of the disk stores one table at most, in whatever number of pages.
-pub fn a_picture_stores_one_table<F: GameFile>()
-    ensures { (m n : ℕ) (picture : Picture) (one other : Option Kept) → F.stores m picture one → F.stores n picture other
+/// An image of the disk stores one table at most, in whatever number of pages.
+pub fn an_image_stores_one_table<F: GameFile>()
+    ensures { (m n : ℕ) (image : Image) (one other : Option Kept) → F.stores m image one → F.stores n image other
         → one ≡ other }
 {}
 
-/// A picture that stores a locally sound table holds it.
+/// An image that stores a locally sound table holds it.
 pub fn a_sound_table_is_held<F: GameFile>()
-    ensures { (pages : ℕ) (picture : Picture) (kept : Option Kept) → F.stores pages picture kept → IsSound kept
-        → Holds (F.stores pages) picture kept }
+    ensures { (pages : ℕ) (image : Image) (kept : Option Kept) → F.stores pages image kept → IsSound kept
+        → Holds (F.stores pages) image kept }
 {}
 
 /// Where each stop of the power has left the one table or the other, one of them is opened.
 pub fn what_was_left_is_opened<F: GameFile>()
     ensures { (disk : Disk) (count : ℕ) (state : State) (one other : Option Kept) → IsOpened F.stores disk count state → IsTrue disk.honest
-        → ((picture : Picture) → MayLeave disk.now picture → Holds (in_any F.stores) picture one ⊎ Holds (in_any F.stores) picture other)
+        → ((image : Image) → MayLeave disk.now image → Holds (in_any F.stores) image one ⊎ Holds (in_any F.stores) image other)
         → (state.kept ≡ one) ⊎ (state.kept ≡ other) }
 {}
 
@@ -119,8 +119,8 @@ pub fn commands_lead_to_one_table()
 /// an audit found right, the empty one that a stopped or refused `create` left. It is used in any number of sittings; whatever a stop leaves,
 /// reopening gives the table behind the last answer, or what the command in doubt may do to that, and what it says is so.
 pub fn the_headline_from<F: GameFile>()
-    ensures { (begins : Option Kept) (sittings : List Sitting) (left : Shown) (picture : Picture) → IsSound begins
-        → HistoryFrom F.stores begins sittings left → MayLeave left picture → HeadlineFrom F.stores begins sittings picture }
+    ensures { (begins : Option Kept) (sittings : List Sitting) (left : Shown) (image : Image) → IsSound begins
+        → HistoryFrom F.stores begins sittings left → MayLeave left image → HeadlineFrom F.stores begins sittings image }
 {}
 
 /// The headline. A table is made, and used in any number of sittings; each opens what was left, and may end by a stop of the power
@@ -129,6 +129,6 @@ pub fn the_headline_from<F: GameFile>()
 /// is won by the named player in exactly the named number of moves, and if it says finished, its positions are those that play can come to and
 /// the unsettled exactly the drawn.
 pub fn the_headline<F: GameFile>()
-    ensures { (sittings : List Sitting) (left : Shown) (picture : Picture) → History F.stores sittings left → MayLeave left picture
-        → Headline F.stores sittings picture }
+    ensures { (sittings : List Sitting) (left : Shown) (image : Image) → History F.stores sittings left → MayLeave left image
+        → Headline F.stores sittings image }
 {}

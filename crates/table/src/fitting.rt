@@ -20,7 +20,7 @@ fn is_settled(state: State) -> bool
     }
 }
 
-/// Whether a record holds what one of its state may hold.
+/// Whether a record is possible for its state.
 fn fits_state(kept: Record) -> bool
     ensures { (result ≡ true) ↔ FitsState kept.state kept }
 {
@@ -33,14 +33,14 @@ fn fits_state(kept: Record) -> bool
     }
 }
 
-/// Whether each record holds what one of its state may, and exactly this many, the first ones, are expanded.
+/// Whether each record is possible for its state, and exactly this many, the first ones, are expanded.
 fn records_fit(records: &[Record], expanded: u32) -> bool
     ensures { (result ≡ true) ↔ RecordsFit expanded records.now }
 {
     records.iter().enumerate().all(|(number, kept)| fits_at(*kept, number < expanded as usize))
 }
 
-/// Whether the record holds what one of its state may, and is expanded where it should be.
+/// Whether the record is possible for its state, and is expanded where it should be.
 fn fits_at(kept: Record, is_expanded: bool) -> bool
     ensures { (result ≡ true) ↔ (FitsState kept.state kept × (expanded_in kept.state ≡ is_expanded)) }
 {

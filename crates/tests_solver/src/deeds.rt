@@ -129,7 +129,7 @@ pub fn is_right(alloc: Global, disk: MemDisk) -> Result<bool, Fail> {
     Ok(verdict_in::<InMemory>(alloc, unfailing(disk))? == Verdict::Right)
 }
 
-/// Whether the table is as far as one of these in each of the 256 pictures that a stop now leaves, and right in the first of them.
+/// Whether the table is as far as one of these in each of the 256 images that a stop now leaves, and right in the first of them.
 pub fn all_say(alloc: Global, disk: &MemDisk, allowed: &[Counts]) -> Result<bool, Fail> {
     for pick in 0..256 {
         let found = status_on(alloc, disk.after_stop(alloc, pick)?)?;

@@ -12,7 +12,7 @@ use test_aids::{TAKE, expect};
 /// More disk calls than a migration makes.
 const MOST_CALLS: u64 = 4_096;
 
-/// As many of the pictures that a stop may leave are looked at.
+/// As many of the images that a stop may leave are looked at.
 const PICKS: u64 = 8;
 
 /// How far the table is: seven units of the game of takes.
@@ -36,7 +36,7 @@ fn is_whole(alloc: Global, earlier: Earlier, disk: &MemDisk, pick: u64) -> Resul
     Ok(is_there && found_on(alloc, again.into_inner())? == Found::Today(Some(COUNTS)))
 }
 
-/// Whether each of these pictures that a stop leaves is whole.
+/// Whether each of these images that a stop leaves is whole.
 fn are_whole(alloc: Global, earlier: Earlier, disk: &MemDisk) -> Result<bool, Fail> {
     for pick in 0..PICKS {
         if !is_whole(alloc, earlier, disk, pick)? {

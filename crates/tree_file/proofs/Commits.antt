@@ -76,7 +76,7 @@ module _ {layout : ℕ} (was mid new : File) (whole : IsWholeFile layout was) (w
     kept = again_kept was new whole all_still (new_game ∙ game) (new_text ∙ text) calm;
     leaves = λ honest is_open.
         same_disk was.work.store.disk mid.work.store.disk new.work.store.disk
-        (λ picture. StoresTrees layout (length was.work.store.marks) picture (kept_of was)) others.disk
+        (λ image. StoresTrees layout (length was.work.store.marks) image (kept_of was)) others.disk
         (works_leaves was mid.work.store whole works honest is_open);
   }
 

@@ -4,10 +4,10 @@ use Rattle.std.specs.Result.{IfOk}
 use Rattle.std.proofs.Common.{◌≡◌, ◌⊎◌, inl, inr, ◌≤◌, ◌<◌, ◌/◌, ℕ, false, true, List, length, None, IsTrue, sym, ◌∙◌, ap, subst, arith}
 use Rattle.std.proofs.Math.Nat.{le-min, le-div_iff_mul-le, min-le_left, min-le_right}
 use Rattle.std.proofs.lemmas.Bool.{cases_lt}
-use Rattle.sector_disk.specs.Disk.{Picture, Shown, Disk, sector, size, Grew, GoesOn, LeavesOnly, MayLeave, AllSynced, SyncedMore}
+use Rattle.sector_disk.specs.Disk.{Image, Shown, Disk, sector, size, Grew, GoesOn, LeavesOnly, MayLeave, AllSynced, SyncedMore}
 use Rattle.sector_disk.specs.lemmas.Moments.{goes_on_trans, leaves_then, leaves_more, still_honest}
 use Rattle.root_pair.specs.lemmas.Rest.{rest_leaves, synced_rests}
-use Rattle.root_pair.specs.Root.{Begins, HoldsRoot, IsMade, IsUnwritten, OldOrNoneOrNew, RootCreateCause}
+use Rattle.root_pair.specs.Root.{BeginsAsTable, HoldsRoot, IsMade, IsUnwritten, OldOrNoneOrNew, RootCreateCause}
 use Rattle.root_pair.specs.declared.fault.RootFault.{RootFault}
 use Rattle.root_pair.specs.declared.fault.RootFault.TheVariants as root
 use Rattle.page_store.specs.Causes.{StoreOpenCause}
@@ -25,17 +25,17 @@ use Rattle.game_file.specs.State.{State, GoesFrom, pages_of}
 use Rattle.game_file.specs.Stops.{OldOrEmpty}
 use Rattle.tree_table.specs.Held.{StoresTrees}
 use Rattle.tree_table.specs.Slot.{IsEmptySlotOf, IsEmptyTreeSlot}
-use Rattle.tree_table.specs.lemmas.OneTable.{a_picture_says_its_pages, a_picture_stores_one_tree_table}
+use Rattle.tree_table.specs.lemmas.OneTable.{an_image_says_its_pages, an_image_stores_one_tree_table}
 use Rattle.tree_file.specs.Older.{IsOlderTable}
 use Rattle.tree_file.specs.lemmas.MadeTable.{of_new}
 use Rattle.tree_file.specs.lemmas.Whole.{older_none}
 
 -- what a stop leaves after a sync it could leave before
-pub left_before : {old new : Shown} → SyncedMore old new → (picture : Picture) → MayLeave new picture → MayLeave old picture
-left_before more picture left = record {
+pub left_before : {old new : Shown} → SyncedMore old new → (image : Image) → MayLeave new image → MayLeave old image
+left_before more image left = record {
   no_shorter = omega (arith, more.lasting, left.no_shorter);
-  no_longer = omega (arith, left.no_longer, ap (λ (p : Picture). length p) more.contents);
-  same = λ k synced. left.same k (more.synced k synced) ∙ ap (λ (p : Picture). sector p k) more.contents;
+  no_longer = omega (arith, left.no_longer, ap (λ (p : Image). length p) more.contents);
+  same = λ k synced. left.same k (more.synced k synced) ∙ ap (λ (p : Image). sector p k) more.contents;
 }
 
 -- a count that grew from a later one on grew
@@ -58,9 +58,9 @@ empty_root layout {many} {pages} {root} same it = record {
 }
 
 -- a table with it, on a disk that has this many sectors, stores the empty table in as many pages as they have room for
-pub made_stores : (layout sectors : ℕ) {root : List ℕ} → IsEmptyRoot layout (min (sectors / 8) 1048576) root → (picture : Picture)
-    → IsMade root sectors picture → StoresTrees layout (min (sectors / 8) 1048576) picture None
-made_stores layout sectors {root} slot picture made =
+pub made_stores : (layout sectors : ℕ) {root : List ℕ} → IsEmptyRoot layout (min (sectors / 8) 1048576) root → (image : Image)
+    → IsMade root sectors image → StoresTrees layout (min (sectors / 8) 1048576) image None
+made_stores layout sectors {root} slot image made =
     let most : min (sectors / 8) 1048576 ≤ sectors / 8 = min-le_left (sectors / 8) 1048576 in
     record {
       root = root;
@@ -73,13 +73,13 @@ made_stores layout sectors {root} slot picture made =
       keeps = slot.empty;
     }
 
-pub old_or_empty : (layout : ℕ) (disk : Disk) {root : List ℕ} → IsEmptyRoot layout (pages_of disk) root → (picture : Picture)
-    → OldOrNoneOrNew disk.now root picture → OldOrEmpty (StoresTrees layout (pages_of disk)) disk.now picture
-old_or_empty layout disk {root} slot picture either = λ table. each (either table)
+pub old_or_empty : (layout : ℕ) (disk : Disk) {root : List ℕ} → IsEmptyRoot layout (pages_of disk) root → (image : Image)
+    → OldOrNoneOrNew disk.now root image → OldOrEmpty (StoresTrees layout (pages_of disk)) disk.now image
+old_or_empty layout disk {root} slot image either = λ table. each (either table)
   where
-    each : MayLeave disk.now picture ⊎ IsMade root (size disk) picture → MayLeave disk.now picture ⊎ StoresTrees layout (pages_of disk) picture None
+    each : MayLeave disk.now image ⊎ IsMade root (size disk) image → MayLeave disk.now image ⊎ StoresTrees layout (pages_of disk) image None
     each (inl left) = inl left
-    each (inr made) = inr (made_stores layout (size disk) slot picture made)
+    each (inr made) = inr (made_stores layout (size disk) slot image made)
 
 -- two facts of an answer give a third
 pub both_ok : {X E : Type 0} (r : Result X E) (P Q R : X → Type 0) → ((x : X) → P x → Q x → R x) → IfOk r P → IfOk r Q → IfOk r R
@@ -98,11 +98,11 @@ pub record IsLaidDown (root : List ℕ) (disk mid : Disk) : Type 0 where
   pub holds : IsTrue disk.honest → HoldsRoot root mid.now.contents
   pub synced : IsTrue disk.honest → AllSynced mid.now
   pub moments : IsTrue disk.honest → LeavesOnly disk mid (OldOrNoneOrNew disk.now root)
-  pub fresh : IsTrue disk.honest → ¬ Begins disk.now.contents
+  pub fresh : IsTrue disk.honest → ¬ BeginsAsTable disk.now.contents
 
 pub laid_down : {root : List ℕ} {disk mid : Disk} → GoesOn disk mid → size mid ≡ size disk → 128 ≤ size disk
     → (IsTrue disk.honest → HoldsRoot root mid.now.contents) → (IsTrue disk.honest → AllSynced mid.now)
-    → (IsTrue disk.honest → LeavesOnly disk mid (OldOrNoneOrNew disk.now root)) → (IsTrue disk.honest → ¬ Begins disk.now.contents)
+    → (IsTrue disk.honest → LeavesOnly disk mid (OldOrNoneOrNew disk.now root)) → (IsTrue disk.honest → ¬ BeginsAsTable disk.now.contents)
     → IsLaidDown root disk mid
 laid_down goes_on same_size room holds synced moments fresh = record {
   goes_on = goes_on;
@@ -122,12 +122,12 @@ counts_none {root} {found} disk mid laid honest holds none = ap commits_in (sym 
 module _ (layout : ℕ) (disk : Disk) {root : List ℕ} (slot : IsEmptyRoot layout (pages_of disk) root) (mid : Disk) (count middle : ℕ)
     (more : count ≤ middle) (laid : IsLaidDown root disk mid) where
   -- a stop then leaves the empty table
-  left_empty : IsTrue disk.honest → (picture : Picture) → MayLeave mid.now picture → StoresTrees layout (pages_of disk) picture None
-  left_empty honest picture left =
+  left_empty : IsTrue disk.honest → (image : Image) → MayLeave mid.now image → StoresTrees layout (pages_of disk) image None
+  left_empty honest image left =
       let rest = synced_rests (laid.holds honest) (laid.synced honest) in
-      let holds : HoldsRoot root picture =
-      subst (λ (r : List ℕ). HoldsRoot r picture) (laid.holds honest).is (rest_leaves mid.now rest picture left) in
-      made_stores layout (size disk) slot picture (record {
+      let holds : HoldsRoot root image =
+      subst (λ (r : List ℕ). HoldsRoot r image) (laid.holds honest).is (rest_leaves mid.now rest image left) in
+      made_stores layout (size disk) slot image (record {
         holds = holds;
         room = laid.room;
         no_shorter = omega (arith, laid.same_size, (laid.synced honest).lasting, left.no_shorter);
@@ -148,7 +148,7 @@ module _ (layout : ℕ) (disk : Disk) {root : List ℕ} (slot : IsEmptyRoot layo
       → LeavesOnly disk later (OldOrEmpty (StoresTrees layout (pages_of disk)) disk.now)
   leaves_through later goes_on leaves honest =
       leaves_then goes_on (leaves_more (old_or_empty layout disk slot) (laid.moments honest))
-      (leaves_more (λ picture left table. inr (left_empty honest picture left)) (leaves (still_honest laid.goes_on honest)))
+      (leaves_more (λ image left table. inr (left_empty honest image left)) (leaves (still_honest laid.goes_on honest)))
 
   pub created : (file : State) → file.capacity ≡ pages_of disk → (IsTrue disk.honest → file.commits ≡ 0) → IsOpenedFile (StoresTrees layout) mid middle file
       → IsCreatedFile (StoresTrees layout) disk count file
@@ -158,7 +158,7 @@ module _ (layout : ℕ) (disk : Disk) {root : List ℕ} (slot : IsEmptyRoot layo
     is_open = opened.is_open;
     commits = commits;
     empty = λ honest.
-        (a_picture_stores_one_tree_table layout layout file.capacity (pages_of disk) mid.now.contents file.kept None
+        (an_image_stores_one_tree_table layout layout file.capacity (pages_of disk) mid.now.contents file.kept None
         (opened.stored (still_honest laid.goes_on honest)) (stored_empty honest)).1;
     fresh = laid.fresh;
     leaves = λ honest. subst (λ (n : ℕ). LeavesOnly disk file.disk (OldOrEmpty (StoresTrees layout n) disk.now)) (sym capacity)
@@ -170,7 +170,7 @@ module _ (layout : ℕ) (disk : Disk) {root : List ℕ} (slot : IsEmptyRoot layo
       → IsTrue disk.honest → file.capacity ≡ pages_of disk
   created_pages file opened all honest = elim (cases_lt layout 3) [
     | inl early ↦ all early ∙ ap (λ (n : ℕ). min (n / 8) 1048576) laid.same_size
-    | inr late ↦ a_picture_says_its_pages layout file.capacity (pages_of disk) mid.now.contents file.kept None late
+    | inr late ↦ an_image_says_its_pages layout file.capacity (pages_of disk) mid.now.contents file.kept None late
         (opened.stored (still_honest laid.goes_on honest)) (stored_empty honest)
   ]
 
@@ -230,7 +230,7 @@ back_found disk count found back now at_first same failures =
 -- a disk that is asked to be made and is not: what the layer below left of it
 pub not_laid : (layout : ℕ) {root : List ℕ} (disk mid : Disk) (count now : ℕ) → IsEmptyRoot layout (pages_of disk) root → GoesOn disk mid
     → size mid ≡ size disk → count ≤ now → (IsTrue disk.honest → LeavesOnly disk mid (OldOrNoneOrNew disk.now root))
-    → (IsTrue disk.honest → Begins disk.now.contents → IsUnwritten disk mid) → IsNotCreated (StoresTrees layout) disk count mid now
+    → (IsTrue disk.honest → BeginsAsTable disk.now.contents → IsUnwritten disk mid) → IsNotCreated (StoresTrees layout) disk count mid now
 not_laid layout disk mid count now slot goes_on same_size failures moments kept = record {
   from = record { goes_on = goes_on; failures = failures; same_size = same_size };
   leaves = λ honest. leaves_more (old_or_empty layout disk slot) (moments honest);

@@ -81,16 +81,16 @@ module _ {layout : ℕ} (was new : File) (whole : IsWholeFile layout was) (root 
       let store = was.work.store in
       let kept = kept_of was in
       let stands = kept_stands store kept (whole.kept honest) in
-      leaves_more (λ picture left. elim left [
-        | inl old ↦ inl (spells_stores_trees store.root layout (length store.marks) kept picture whole.of_layout whole.says whole.room whole.sound.few
-            (saved_spells store stands picture old))
+      leaves_more (λ image left. elim left [
+        | inl old ↦ inl (spells_stores_trees store.root layout (length store.marks) kept image whole.of_layout whole.says whole.room whole.sound.few
+            (saved_spells store stands image old))
         | inr now ↦
-            let spells = saved_in_spells root pages store stands picture now in
-            inr (spells_stores_trees root layout pages kept picture named.of_layout named.says (omega (arith, whole.room, more)) few (record {
+            let spells = saved_in_spells root pages store stands image now in
+            inr (spells_stores_trees root layout pages kept image named.of_layout named.says (omega (arith, whole.room, more)) few (record {
               holds = spells.holds;
               room = spells.room;
-              spelt = keeps_in_more_trees root (length store.marks) pages kept (page picture) (omega (arith, more))
-                  (trees_under root was.work.text store (length store.marks) was.game (page picture) whole.names named.names named.packing spells.spelt);
+              spelt = keeps_in_more_trees root (length store.marks) pages kept (page image) (omega (arith, more))
+                  (trees_under root was.work.text store (length store.marks) was.game (page image) whole.names named.names named.packing spells.spelt);
             }))
       ]) (grows.leaves honest (whole.sound.safe honest is_open))
 
@@ -162,8 +162,8 @@ module _ {layout : ℕ} (was new : File) (whole : IsWholeFile layout was) (root 
         at fault.Disk cause is = elim cause.1 [
           | inl longer ↦
               let store = was.work.store in
-              leaves_more (λ picture saved. spells_stores_trees store.root layout (length store.marks) (kept_of was) picture whole.of_layout whole.says
-              whole.room whole.sound.few (saved_spells store (kept_stands store (kept_of was) (whole.kept honest)) picture saved))
+              leaves_more (λ image saved. spells_stores_trees store.root layout (length store.marks) (kept_of was) image whole.of_layout whole.says
+              whole.room whole.sound.few (saved_spells store (kept_stands store (kept_of was) (whole.kept honest)) image saved))
               (longer.leaves honest (whole.sound.safe honest (sym longer.closed ∙ is_open)))
           | inr shut ↦ let never : true ≡ false = sym shut ∙ is_open in absurd (cc)
         ]
@@ -216,12 +216,12 @@ module _ (was mid new : File) (still : IsStill was.work.store mid.work.store) (o
     since_either : (pages : ℕ) → IsTrue was.work.store.disk.honest → LeavesEitherSize (StoresTrees layout) pages (state_of mid) (state_of new)
         → LeavesEitherSize (StoresTrees layout) pages (state_of was) (state_of new)
     since_either pages honest leaves =
-        subst (λ (k : Option Kept). LeavesOnly was.work.store.disk new.work.store.disk (λ picture. StoresTrees layout (length was.work.store.marks) picture k
-        ⊎ StoresTrees layout pages picture k)) (same_kept honest)
-        (subst (λ (n : ℕ). LeavesOnly was.work.store.disk new.work.store.disk (λ picture. StoresTrees layout n picture (kept_of mid)
-        ⊎ StoresTrees layout pages picture (kept_of mid))) still.same_pages
-        (subst (λ (d : Disk). LeavesOnly d new.work.store.disk (λ picture. StoresTrees layout (length mid.work.store.marks) picture (kept_of mid)
-        ⊎ StoresTrees layout pages picture (kept_of mid))) others.disk leaves))
+        subst (λ (k : Option Kept). LeavesOnly was.work.store.disk new.work.store.disk (λ image. StoresTrees layout (length was.work.store.marks) image k
+        ⊎ StoresTrees layout pages image k)) (same_kept honest)
+        (subst (λ (n : ℕ). LeavesOnly was.work.store.disk new.work.store.disk (λ image. StoresTrees layout n image (kept_of mid)
+        ⊎ StoresTrees layout pages image (kept_of mid))) still.same_pages
+        (subst (λ (d : Disk). LeavesOnly d new.work.store.disk (λ image. StoresTrees layout (length mid.work.store.marks) image (kept_of mid)
+        ⊎ StoresTrees layout pages image (kept_of mid))) others.disk leaves))
 
     since_left : IsTrue was.work.store.disk.honest
         → LeavesTable (StoresTrees layout (length mid.work.store.marks)) mid.work.store.disk new.work.store.disk (kept_of mid)

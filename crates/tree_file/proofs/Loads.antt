@@ -29,7 +29,7 @@ pub nothing_put : {layout : ℕ} (was : File) (is : Kept) → IsWholeFile layout
 nothing_put {layout} was is whole =
     not_put was was is whole (works_still (works_refl was.work.store)) refl refl whole.calm
     (λ honest is_open. leaves_now was.work.store.disk (whole_leaves layout was whole honest is_open))
-    (λ honest is_open. leaves_more (λ picture stored. inl stored) (leaves_now was.work.store.disk (whole_leaves layout was whole honest is_open)))
+    (λ honest is_open. leaves_more (λ image stored. inl stored) (leaves_now was.work.store.disk (whole_leaves layout was whole honest is_open)))
 
 pub so_refused : {X E P : Type 0} (r : Result X E) → P → OnErr r P
 so_refused (Ok x) so = tt

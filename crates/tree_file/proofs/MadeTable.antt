@@ -20,7 +20,7 @@ use Rattle.tree_table.specs.declared.tree.Tree.TheVariants.{Positions, Records, 
 use Rattle.tree_table.specs.Entries.{number_key, edge_key, AreByNumber, AreByPosition, AreByEdge}
 use Rattle.tree_table.specs.lemmas.Lists.{push_cases, push_long}
 use Rattle.tree_table.specs.lemmas.Numbers.{same_number}
-use Rattle.tree_file.specs.Counted.{IsBetween, AreAsMany}
+use Rattle.tree_file.specs.Counted.{IsEdgeBelow, AreAsMany}
 use Rattle.tree_file.specs.Spelled.{SpellTable}
 use Rattle.tree_file.specs.lemmas.Right.{IsNumberAt, IsCellAt, is_among, FitsPlace, IsPlaceOf, AreRight}
 use Rattle.tree_file.proofs.FoundPlaces.{one_number_at}
@@ -245,7 +245,7 @@ module _ (sizes : Sizes) (entries : Tree → List Item) (limits : AreWithinLimit
   by_edge = record {
     each = λ i p is. (three_true (nat_lt i sizes.counts.known) (nat_lt p sizes.counts.known) (is_some (find_entry (entries Edges) (edge_key i p))) is).2;
     only = λ key value found.
-        let it = found_entry (IsBetween sizes.counts.known) (entries Edges) key value many.between found in (
+        let it = found_entry (IsEdgeBelow sizes.counts.known) (entries Edges) key value many.between found in (
           it.to,
           it.from,
           it.is,

@@ -3,7 +3,7 @@ use Rattle.std.proofs.Common.{◌≡◌, inl, inr, ◌≤◌, ◌<◌, ◌*◌, 
 use Rattle.std.specs.Prelude.{min}
 use Rattle.std.proofs.Math.Nat.{le-min, le-div_iff_mul-le}
 use Rattle.std.proofs.lemmas.Bool.{cases_lt}
-use Rattle.sector_disk.specs.Disk.{Picture, Shown, Disk, size, GoesOn, LeavesOnly, MayLeave, SyncedMore}
+use Rattle.sector_disk.specs.Disk.{Image, Shown, Disk, size, GoesOn, LeavesOnly, MayLeave, SyncedMore}
 use Rattle.sector_disk.specs.lemmas.Moments.{goes_on_trans, leaves_then, leaves_more, still_honest}
 use Rattle.root_pair.specs.Root.{HoldsRoot}
 use Rattle.page_store.specs.Page.{page as bytes_of}
@@ -111,7 +111,7 @@ module _ (layout : ℕ) (disk : Disk) (count : ℕ) (cut now : Store) (at_first 
         enough = it.room;
         few = omega (arith, at_first.few, read.same_pages);
         room = omega (arith, at_first.room, read.same_pages);
-        keeps = stands.spelled.anywhere (bytes_of disk.now.contents) (λ p here. ap (λ (picture : Picture). bytes_of picture p) (sym same));
+        keeps = stands.spelled.anywhere (bytes_of disk.now.contents) (λ p here. ap (λ (image : Image). bytes_of image p) (sym same));
       }
 
   found_opened : (commits : ℕ) (game : Option TreeSlot) (text : List ℕ) → IsFoundInFile commits game text now
@@ -129,7 +129,7 @@ module _ (layout : ℕ) (disk : Disk) (count : ℕ) (cut now : Store) (at_first 
   kept_there pages kept honest stores =
       let same_root : stores.root ≡ cut.root = sym stores.holds.is ∙ (at_first.root honest).is in
       let same : disk.now.contents ≡ cut.disk.now.contents = sym (at_first.same honest).contents in
-      subst (λ (picture : Picture). KeepsTrees cut.root (length cut.marks) kept (bytes_of picture)) same
+      subst (λ (image : Image). KeepsTrees cut.root (length cut.marks) kept (bytes_of image)) same
       (subst (λ (root : List ℕ). KeepsTrees root (length cut.marks) kept (bytes_of disk.now.contents)) same_root
       (keeps_in_more_trees stores.root pages (length cut.marks) kept (bytes_of disk.now.contents) (elim (cases_lt layout 3) [
         | inl early ↦ let most = within_room pages (size disk) stores.room stores.few in omega (arith, most, at_first.all early)

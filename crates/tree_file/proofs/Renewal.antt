@@ -168,18 +168,18 @@ module _ {layout : ℕ} (to : ℕ) (was : File) (whole : IsWholeFile layout was)
 
   -- a stop within the commit leaves it in the one layout or in the other
   either_layout : (new : Store) → Commits root was.work.store new → IsTrue was.work.store.disk.honest → was.work.store.closed ≡ false
-      → LeavesOnly was.work.store.disk new.disk (λ picture. StoresTrees layout (length was.work.store.marks) picture (kept_of was)
-      ⊎ StoresTrees to (length was.work.store.marks) picture (kept_of was))
+      → LeavesOnly was.work.store.disk new.disk (λ image. StoresTrees layout (length was.work.store.marks) image (kept_of was)
+      ⊎ StoresTrees to (length was.work.store.marks) image (kept_of was))
   either_layout new commits honest is_open =
       let store = was.work.store in
       let under = store_under root store in
       let kept = kept_of was in
-      leaves_more (λ picture left. elim left [
-        | inl old ↦ inl (spells_stores_trees store.root layout (length store.marks) kept picture whole.of_layout whole.says whole.room
+      leaves_more (λ image left. elim left [
+        | inl old ↦ inl (spells_stores_trees store.root layout (length store.marks) kept image whole.of_layout whole.says whole.room
             whole.sound.few
-            (saved_spells store (kept_stands store kept (whole.kept honest)) picture old))
-        | inr now ↦ inr (spells_stores_trees root to (length store.marks) kept picture anew.of_layout anew.says whole.room whole.sound.few
-            (saved_spells under (kept_stands under kept (whole_under.kept honest)) picture
+            (saved_spells store (kept_stands store kept (whole.kept honest)) image old))
+        | inr now ↦ inr (spells_stores_trees root to (length store.marks) kept image anew.of_layout anew.says whole.room whole.sound.few
+            (saved_spells under (kept_stands under kept (whole_under.kept honest)) image
             (record { holds = now.holds; room = now.room; pages = λ p needed. now.pages p needed.0 })))
       ]) (commits.leaves honest (whole.sound.safe honest is_open))
 

@@ -4,7 +4,7 @@ use Rattle.std.proofs.lemmas.List.Elements.{All-append, All-cons, All-nil, All-h
 use Rattle.btree.specs.Page.{Item}
 use Rattle.tree_table.specs.Entries.{edge_key}
 use Rattle.tree_table.specs.lemmas.Numbers.{same_edge}
-use Rattle.tree_file.specs.Counted.{IsBetween}
+use Rattle.tree_file.specs.Counted.{IsEdgeBelow}
 use Rattle.tree_file.specs.lemmas.One.{CountIs, EdgesAre}
 use Rattle.tree_file.specs.lemmas.Told.{AreTallied, IsNoEdge, IsPastCount}
 
@@ -17,7 +17,7 @@ all_back P [] ys all = all
 all_back P (x ∷ xs) ys all = all_back P xs ys (All-tail P x (xs ++ ys) all)
 
 -- both ends of an edge are below a number
-ends_below : (n to from : ℕ) (item : Item) → n < 2 ^ 32 → item.0 ≡ edge_key to from → to < 2 ^ 32 → from < 2 ^ 32 → IsBetween n item → (to < n) × (from < n)
+ends_below : (n to from : ℕ) (item : Item) → n < 2 ^ 32 → item.0 ≡ edge_key to from → to < 2 ^ 32 → from < 2 ^ 32 → IsEdgeBelow n item → (to < n) × (from < n)
 ends_below n to from item small is to_fits from_fits between =
     let low : between.to < 2 ^ 32 = omega (arith, small, between.to_known) in
     let less : between.from < 2 ^ 32 = omega (arith, small, between.from_known) in
@@ -27,7 +27,7 @@ ends_below n to from item small is to_fits from_fits between =
 pub tally_none : AreTallied 0 0 []
 tally_none = record {
   many = refl;
-  below = λ n small low. All-nil (IsBetween n);
+  below = λ n small low. All-nil (IsEdgeBelow n);
   least = λ n small all. omega arith;
 }
 
@@ -40,11 +40,11 @@ tally_more count above mid now to from es item so_far is to_fits from_fits one t
   below = λ n small low.
       let second = (two n).0 low in
       let first = (one n).0 second.0 in
-      All-append (IsBetween n) es (item ∷ []) (so_far.below n small first.0)
-      (All-cons (IsBetween n) item [] (record { to = to; from = from; is = is; to_known = first.1; from_known = second.1 }) (All-nil (IsBetween n)));
+      All-append (IsEdgeBelow n) es (item ∷ []) (so_far.below n small first.0)
+      (All-cons (IsEdgeBelow n) item [] (record { to = to; from = from; is = is; to_known = first.1; from_known = second.1 }) (All-nil (IsEdgeBelow n)));
   least = λ n small all.
-      let ends = ends_below n to from item small is to_fits from_fits (All-head (IsBetween n) item [] (all_back (IsBetween n) es (item ∷ []) all)) in
-      (two n).1 ((one n).1 (so_far.least n small (all_front (IsBetween n) es (item ∷ []) all), ends.0), ends.1);
+      let ends = ends_below n to from item small is to_fits from_fits (All-head (IsEdgeBelow n) item [] (all_back (IsEdgeBelow n) es (item ∷ []) all)) in
+      (two n).1 ((one n).1 (so_far.least n small (all_front (IsEdgeBelow n) es (item ∷ []) all), ends.0), ends.1);
 }
 
 -- what was told is as it has to be
@@ -68,4 +68,4 @@ pub not_refused : (front back : List Item) (entry : Item) (wanted known : ℕ) �
     → EdgesAre wanted known (front ++ entry ∷ back) → ⊥
 not_refused front back entry wanted known small (inl past) such = not_past front back entry wanted small past such.0
 not_refused front back entry wanted known small (inr none) such =
-    none known (All-head (IsBetween known) entry back (all_back (IsBetween known) front (entry ∷ back) such.1))
+    none known (All-head (IsEdgeBelow known) entry back (all_back (IsEdgeBelow known) front (entry ∷ back) such.1))

@@ -7,7 +7,7 @@ use Rattle.tree_table.specs.declared.tree.Tree.TheVariants.{Positions, Records, 
 use Rattle.tree_table.specs.Entries.{edge_key}
 
 -- the key is that of an edge between two numbers below this one
-pub record IsBetween (known : ℕ) (item : Item) : Type 0 where
+pub record IsEdgeBelow (known : ℕ) (item : Item) : Type 0 where
   pub to : ℕ
   pub from : ℕ
   pub is : item.0 ≡ edge_key to from
@@ -20,4 +20,4 @@ pub record AreAsMany (sizes : Sizes) (entries : Tree → List Item) : Type 0 whe
   pub records : length (entries Records) ≡ sizes.counts.known
   pub edges : length (entries Edges) ≡ sizes.edges
   pub order : length (entries Order) ≡ sizes.counts.settled
-  pub between : All (IsBetween sizes.counts.known) (entries Edges)
+  pub between : All (IsEdgeBelow sizes.counts.known) (entries Edges)

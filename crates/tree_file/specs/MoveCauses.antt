@@ -1,6 +1,6 @@
 -- What is left where a table moves to a file of another layout, and why it does not.
 use Rattle.std.specs.Prelude.{◌≡◌, ◌≢◌, ◌⊎◌, ℕ, ◌≤◌, List, true, false, IsTrue}
-use Rattle.sector_disk.specs.Disk.{Picture, Disk, Grew, LeavesOnly}
+use Rattle.sector_disk.specs.Disk.{Image, Disk, Grew, LeavesOnly}
 use Rattle.root_pair.specs.Root.{HoldsRoot}
 use Rattle.game_file.specs.Fields.{commits_in}
 use Rattle.page_store.specs.Page.{page}
@@ -11,16 +11,16 @@ use Rattle.game_file.specs.Kept.{Layout}
 use Rattle.game_file.specs.State.{State, GoesFrom, count_behind}
 use Rattle.game_file.specs.Stops.{LeavesNow, LeavesTable}
 
--- the slot that the gate of the picture picks tells this count of commits
-pub record TellsCommits (count : ℕ) (picture : Picture) : Type 0 where
+-- the slot that the gate of the image picks tells this count of commits
+pub record TellsCommits (count : ℕ) (image : Image) : Type 0 where
   pub root : List ℕ
-  pub holds : HoldsRoot root picture
+  pub holds : HoldsRoot root image
   pub commits : commits_in root ≡ count
 
 module _ (From To : ℕ → Layout) where
   -- a stop meanwhile leaves what the file keeps, in the one layout or in the other, in as many pages
   abbrev pub LeavesOldOrNew : State → Disk → Type 0
-  LeavesOldOrNew old back = LeavesOnly old.disk back (λ picture. From old.capacity picture old.kept ⊎ To old.capacity picture old.kept)
+  LeavesOldOrNew old back = LeavesOnly old.disk back (λ image. From old.capacity image old.kept ⊎ To old.capacity image old.kept)
 
   -- what a file of the one layout kept is in one of the other now, in as many pages, by one commit more, on a disk that comes back with the
   -- same header; a stop meanwhile leaves it in the one layout or in the other, and a stop now in the other

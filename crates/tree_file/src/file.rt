@@ -10,7 +10,7 @@ ghost use Rattle.game_file.specs.Calls.{IsOpenedFile, IsNotOpened};
 ghost use Rattle.game_file.specs.Causes.{FileOpenCause};
 ghost use Rattle.tree_table.specs.Held.{StoresTrees};
 ghost use Rattle.tree_table.specs.InTrees.{work_in};
-ghost use Rattle.tree_table.specs.lemmas.OneTable.{a_picture_stores_one_tree_table};
+ghost use Rattle.tree_table.specs.lemmas.OneTable.{an_image_stores_one_tree_table};
 ghost use Rattle.tree_table.specs.KeptTrees.{AreSized, StandsFor};
 ghost use Rattle.tree_file.specs.File.{IsWholeFile, UsesNoOther, state_of};
 ghost use Rattle.tree_file.specs.lemmas.Backed.{are_sized_prop};
@@ -150,12 +150,12 @@ impl<P: PagesOnDisk, const LAYOUT: u32> GameFile for TreeFile<P, LAYOUT> {
 
     ghost is_whole = { λ t. IsWholeFile LAYOUT (file_in t) };
 
-    ghost stores_one = { λ m n picture one other first second.
-        (a_picture_stores_one_tree_table LAYOUT LAYOUT m n picture one other first second).1 };
+    ghost stores_one = { λ m n image one other first second.
+        (an_image_stores_one_tree_table LAYOUT LAYOUT m n image one other first second).1 };
 
-    ghost older_stores_none = { λ pages picture kept older it. older_none LAYOUT pages picture kept older it };
+    ghost older_stores_none = { λ pages image kept older it. older_none LAYOUT pages image kept older it };
 
-    ghost stores_begins = { λ pages picture kept it. it.holds.table };
+    ghost stores_begins = { λ pages image kept it. it.holds.table };
 
     ghost whole_leaves = { λ t whole honest is_open. whole_leaves LAYOUT (file_in t) whole honest is_open };
 

@@ -36,7 +36,7 @@ fn is_done(placed: Placed) -> bool
     }
 }
 
-/// Whether a record holds what one of its state may hold.
+/// Whether a record is possible for its state.
 fn fits_state(kept: Record) -> bool
     ensures { (result ≡ true) ↔ FitsState kept.state kept }
 {

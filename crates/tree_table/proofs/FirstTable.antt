@@ -37,8 +37,8 @@ pub works_leave : (old new : Store) (was : Option Kept) → IsTrue old.disk.hone
     → SaysPages old.root (length old.marks) → 16 ≤ length old.marks → length old.marks ≤ 1048576
     → LeavesTable (StoresTrees (layout_in old.root) (length old.marks)) old.disk new.disk was
 works_leave old new was honest works safe it says enough few =
-    leaves_more (λ picture saved. spells_stores_trees old.root (layout_in old.root) (length old.marks) was picture refl says enough few
-    (saved_spells old (kept_stands old was it) picture saved))
+    leaves_more (λ image saved. spells_stores_trees old.root (layout_in old.root) (length old.marks) was image refl says enough few
+    (saved_spells old (kept_stands old was it) image saved))
     (works.leaves honest safe)
 
 -- why the first table is not put

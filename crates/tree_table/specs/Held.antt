@@ -1,6 +1,6 @@
--- The table on trees that a picture of the disk holds, as far as that can be told without the game's rules.
+-- The table on trees that an image of the disk holds, as far as that can be told without the game's rules.
 use Rattle.std.specs.Prelude.{◌≡◌, ℕ, ◌*◌, ◌≤◌, List, length, Option, None, Some}
-use Rattle.sector_disk.specs.Disk.{Picture}
+use Rattle.sector_disk.specs.Disk.{Image}
 use Rattle.root_pair.specs.Root.{HoldsRoot}
 use Rattle.page_store.specs.Page.{page}
 use Rattle.retrograde.specs.Stored.{IsTable}
@@ -38,15 +38,15 @@ abbrev pub KeepsTrees : List ℕ → ℕ → Option Kept → (ℕ → List ℕ) 
 KeepsTrees root capacity None bytes = IsEmptyTreeSlot root
 KeepsTrees root capacity (Some kept) bytes = KeepsGameTrees root capacity kept bytes
 
--- the picture is a table of this layout in this many pages, 16 to 1,048,576: it begins as each table does and has room for them; its gate
+-- the image is a table of this layout in this many pages, 16 to 1,048,576: it begins as each table does and has room for them; its gate
 -- picks a slot of this layout, which says the same number if the layout says it at all; and what that slot and the pages named from
 -- it spell is this
-pub record StoresTrees (layout pages : ℕ) (picture : Picture) (kept : Option Kept) : Type 0 where
+pub record StoresTrees (layout pages : ℕ) (image : Image) (kept : Option Kept) : Type 0 where
   pub root : List ℕ
-  pub holds : HoldsRoot root picture
+  pub holds : HoldsRoot root image
   pub same_layout : layout_in root ≡ layout
   pub says : SaysPages root pages
   pub enough : MIN_PAGES ≤ pages
   pub few : pages ≤ MAX_PAGES
-  pub room : 8 * pages ≤ length picture
-  pub keeps : KeepsTrees root pages kept (page picture)
+  pub room : 8 * pages ≤ length image
+  pub keeps : KeepsTrees root pages kept (page image)

@@ -30,7 +30,7 @@ module _ (Stores : ℕ → Layout) where
 
   -- an honest disk is found as it was left
   found_so : (disk : Disk) → IsTrue disk.honest → IsFound Stores disk.now disk
-  found_so disk honest = record { honest = honest; as_left = λ picture left. left }
+  found_so disk honest = record { honest = honest; as_left = λ image left. left }
 
   own_then : (sittings : List Sitting) (sitting : Sitting) → AllByRecursion IsOwnSitting sittings → IsOwnSitting sitting
       → AllByRecursion IsOwnSitting (sittings ++ (sitting ∷ []))

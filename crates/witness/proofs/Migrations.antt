@@ -1,7 +1,7 @@
 -- What is known of a disk in the course of migrations, from one call to the next.
 use Rattle.std.proofs.Common.{◌≡◌, ℕ, inl, inr, ◌∙◌, List, [], length, Option, Some, refl, sym, subst, arith}
 use Rattle.std.specs.Prelude.{IsTrue, Result, Ok, Err, IfOk}
-use Rattle.sector_disk.specs.Disk.{Picture, Shown, Disk, MayLeave, AllSynced, Grew, IsFresh, at_present, counting}
+use Rattle.sector_disk.specs.Disk.{Image, Shown, Disk, MayLeave, AllSynced, Grew, IsFresh, at_present, counting}
 use Rattle.sector_disk.specs.InMemory.{disk_in}
 use Rattle.sector_disk.specs.declared.memory.MemDisk.{MemDisk}
 use Rattle.sector_disk.specs.lemmas.Moments.{reads_left}
@@ -50,7 +50,7 @@ module _ (Layouts : ℕ → Layout) where
     kept = state.kept;
     sound = table.sound;
     finished = table.such;
-    leaves = λ picture may. (state.capacity, leaves picture may);
+    leaves = λ image may. (state.capacity, leaves image may);
   }
 
 -- before the first migration
@@ -61,8 +61,8 @@ not_begun disk it = record {
   sound = it.sound;
   finished = it.finished;
   before = disk.now;
-  going = began (λ picture may. let (pages, stores) = it.leaves picture may in (pages, inl (inr stores)));
-  as_left = λ picture may. may;
+  going = began (λ image may. let (pages, stores) = it.leaves image may in (pages, inl (inr stores)));
+  as_left = λ image may. may;
 }
 
 -- whatever the disk counts as failed
@@ -87,7 +87,7 @@ found_so disk found it honest left all = record {
   finished = it.finished;
   before = it.before;
   going = it.going;
-  as_left = λ picture may. it.as_left picture (record {
+  as_left = λ image may. it.as_left image (record {
     no_shorter = omega (arith, left.no_shorter, all.lasting, may.no_shorter);
     no_longer = omega (arith, may.no_longer, left.no_longer);
     same = λ k synced. may.same k (all.synced k) ∙ left.same k synced;
@@ -119,7 +119,7 @@ module _ (disk back : Disk) (count now : ℕ) (it : IsInMigrations disk) where
     finished = it.finished;
     before = back.now;
     going = going;
-    as_left = λ picture may. may;
+    as_left = λ image may. may;
   }
 
   pub behind_begun : WasBegun EarlierLayouts (StoresTrees 3) disk count back now → IsInMigrations back
@@ -169,10 +169,10 @@ fits_with_bytes kept its sound fits =
     (fits.long 0 (graph kept.packing).start (a_sound_table_is_right kept witness_game sound (its_own (StoresTrees 3) kept its.0.0)).moves.first)
 
 module _ (disk : Disk) (before now : ℕ) (it : IsInMigrations disk)
-    (leaves : (kept : Option Kept) (left : Shown) (picture : Picture) → AreMigrations EarlierLayouts (StoresTrees 3) kept left → MayLeave left picture
-    → in_any (EitherLayout EarlierLayouts (StoresTrees 3)) picture kept)
-    (one : (m n : ℕ) (picture : Picture) (a b : Option Kept) → EitherLayout EarlierLayouts (StoresTrees 3) m picture a
-    → EitherLayout EarlierLayouts (StoresTrees 3) n picture b → a ≡ b) where
+    (leaves : (kept : Option Kept) (left : Shown) (image : Image) → AreMigrations EarlierLayouts (StoresTrees 3) kept left → MayLeave left image
+    → in_any (EitherLayout EarlierLayouts (StoresTrees 3)) image kept)
+    (one : (m n : ℕ) (image : Image) (a b : Option Kept) → EitherLayout EarlierLayouts (StoresTrees 3) m image a
+    → EitherLayout EarlierLayouts (StoresTrees 3) n image b → a ≡ b) where
   -- the disk reads as the table, in one of the layouts
   there : in_any (EitherLayout EarlierLayouts (StoresTrees 3)) disk.now.contents it.kept
   there = leaves it.kept it.before disk.now.contents it.going (it.as_left disk.now.contents (reads_left disk))
@@ -207,8 +207,8 @@ module _ (disk : Disk) (before now : ℕ) (it : IsInMigrations disk)
 -- ---- what is opened behind them
 
 module _ (disk : Disk) (it : GoesOnFinished disk)
-    (law : (begins : Option Kept) (sittings : List Sitting) (left : Shown) (picture : Picture) → IsSound begins
-    → HistoryFrom (StoresTrees 3) begins sittings left → MayLeave left picture → HeadlineFrom (StoresTrees 3) begins sittings picture) where
+    (law : (begins : Option Kept) (sittings : List Sitting) (left : Shown) (image : Image) → IsSound begins
+    → HistoryFrom (StoresTrees 3) begins sittings left → MayLeave left image → HeadlineFrom (StoresTrees 3) begins sittings image) where
   headline : HeadlineFrom (StoresTrees 3) it.kept [] disk.now.contents
   headline = law it.kept [] disk.now disk.now.contents it.sound it.history (reads_left disk)
 

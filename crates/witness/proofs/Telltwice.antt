@@ -3,7 +3,7 @@ use Rattle.std.proofs.Common.{◌≡◌, ℕ, List, [], ◌∷◌, Option, None,
 use Rattle.std.proofs.lemmas.Option.{same_Some}
 use Rattle.rbg_game.specs.declared.roles.Player.{Player}
 use Rattle.std.specs.Prelude.{IsTrue}
-use Rattle.sector_disk.specs.Disk.{Picture, Shown, Disk, MayLeave, at_present}
+use Rattle.sector_disk.specs.Disk.{Image, Shown, Disk, MayLeave, at_present}
 use Rattle.sector_disk.specs.lemmas.Moments.{still_honest, reads_left}
 use Rattle.best_line.specs.declared.answers.Value.{Value}
 use Rattle.best_line.specs.declared.answers.Value.TheVariants.{Won, Drawn, Open}
@@ -43,8 +43,8 @@ module _ {S : Type 0} (calls : Calls S) (lawful : AreLawful calls) where
       reaches rest after tells_after (still_honest (lawful.answered_on command answer was mid answers here).1 honest)
   reaches (brief.it_told says rest) table tells honest = reaches rest table tells honest
 
-  pub told_twice : ((sittings : List BriefSitting) (left : Shown) (picture : Picture) → BriefHistory calls sittings left → MayLeave left picture
-      → BriefHeadline calls sittings picture)
+  pub told_twice : ((sittings : List BriefSitting) (left : Shown) (image : Image) → BriefHistory calls sittings left → MayLeave left image
+      → BriefHeadline calls sittings image)
       → (d : Disk) (made last again : S) (answered : List (Command × BriefAnswer)) (first second : Value) → IsTrue d.honest → calls.created d made
       → AreCalls calls answered (the_value 0 first ∷ []) made last → calls.opened (calls.disk last) again
       → OfTable calls again (λ table. TellsValue 0 second table) → IsForGood (the_value 0 first) → second ≡ first

@@ -3,9 +3,9 @@ use Rattle.std.proofs.Common.{◌≡◌, ℕ, ◌⊎◌, inl, inr, ◌<◌, ◌^
 use Rattle.std.proofs.lemmas.List.{length-replicate}
 use Rattle.std.specs.Prelude.{IsTrue, IfSome, IsSome}
 use Rattle.std.specs.List.{AllByRecursion}
-use Rattle.sector_disk.specs.Disk.{Picture, Shown, Disk, size, MayLeave, IsFresh, Grew}
+use Rattle.sector_disk.specs.Disk.{Image, Shown, Disk, size, MayLeave, IsFresh, Grew}
 use Rattle.sector_disk.specs.lemmas.Moments.{reads_left}
-use Rattle.root_pair.specs.Root.{Begins}
+use Rattle.root_pair.specs.Root.{BeginsAsTable}
 use Rattle.rbg_game.specs.Games.{Game}
 use Rattle.rbg_game.specs.declared.roles.Player.{Player}
 use Rattle.rbg_game.specs.declared.roles.Player.TheVariants.{First}
@@ -83,7 +83,7 @@ abbrev zero_disk : List (List ℕ)
 zero_disk = replicate 256 zeros
 
 -- a sector of zeros begins no table
-zeros_begin_no_table : Begins zero_disk → ⊥
+zeros_begin_no_table : BeginsAsTable zero_disk → ⊥
 zeros_begin_no_table begins =
     let first : ◌≡◌ {A = ℕ} 0 82 = ap (λ (xs : List ℕ). get_or xs 0 1) begins in
     absurd (omega arith)
@@ -93,7 +93,7 @@ module _ (Stores : ℕ → Layout) where
 
   -- after a stop it is a table of the game or of none, and sound
   pub reopened : (found : Disk) (count : ℕ) (state : State) (behind : IsFoundBehind Stores found)
-      → ((sittings : List Sitting) (left : Shown) (picture : Picture) → History Stores sittings left → MayLeave left picture → Headline Stores sittings picture)
+      → ((sittings : List Sitting) (left : Shown) (image : Image) → History Stores sittings left → MayLeave left image → Headline Stores sittings image)
       → ((sittings : List Sitting) (old new : Option Kept) → LeadTo sittings old new → IsSound old → IsSound new)
       → IsOpened Stores found count state → HasSuchTable IsNoneOrIt state
   reopened found count state behind law sound_by opened =
@@ -108,7 +108,7 @@ module _ (Stores : ℕ → Layout) where
 
   -- what is opened of a disk that was not stopped is so too
   pub opened_again : (disk : Disk) (count : ℕ) (state : State) → IsBehindSittings Stores disk
-      → ((sittings : List Sitting) (left : Shown) (picture : Picture) → History Stores sittings left → MayLeave left picture → Headline Stores sittings picture)
+      → ((sittings : List Sitting) (left : Shown) (image : Image) → History Stores sittings left → MayLeave left image → Headline Stores sittings image)
       → ((sittings : List Sitting) (old new : Option Kept) → LeadTo sittings old new → IsSound old → IsSound new)
       → IsOpened Stores disk count state → HasSuchTable IsNoneOrIt state
   opened_again disk count state behind =
@@ -119,7 +119,7 @@ module _ (Stores : ℕ → Layout) where
   unlucky before now why (inr memory) = subst (IsWantOfRoom (Grew before now)) (sym memory) tt
 
   pub not_reopened : (found : Disk) (before now : ℕ) (why : SolverFault) (behind : IsFoundBehind Stores found)
-      → ((sittings : List Sitting) (left : Shown) (picture : Picture) → History Stores sittings left → MayLeave left picture → Headline Stores sittings picture)
+      → ((sittings : List Sitting) (left : Shown) (image : Image) → History Stores sittings left → MayLeave left image → Headline Stores sittings image)
       → OpenCause Stores found before now why → IsWantOfRoom (Grew before now) why
   not_reopened found before now why behind law cause =
       let headline = law behind.behind.sittings behind.disk.now found.now.contents behind.behind.history behind.left in
@@ -131,7 +131,7 @@ module _ (Stores : ℕ → Layout) where
   not_made disk before now fault.Disk fresh cause = cause
   not_made disk before now fault.NotATable fresh cause = absurd (cause fresh.honest)
   not_made disk before now fault.AlreadyATable fresh cause =
-      let begins : Begins zero_disk = subst Begins fresh.contents (cause fresh.honest) in
+      let begins : BeginsAsTable zero_disk = subst BeginsAsTable fresh.contents (cause fresh.honest) in
       absurd (zeros_begin_no_table begins)
   not_made disk before now fault.Damaged fresh cause = absurd (cause fresh.honest)
   not_made disk before now fault.TooSmall fresh cause =

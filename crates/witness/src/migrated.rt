@@ -15,7 +15,7 @@ use crate::unanswered::Unanswered;
 use best_line::Value;
 use game_file::GameFile;
 use headline::laws::{
-    a_picture_stores_one_table_of_all_layouts, stopped_migrations_go_on,
+    an_image_stores_one_table_of_all_layouts, stopped_migrations_go_on,
     the_headline_of_found_tables,
 };
 use recover::{EarlierFile, FirstFile, SecondFile, TableFile, migrate};
@@ -135,7 +135,7 @@ fn end_migration(alloc: Global, disk: MemDisk) -> Result<MemDisk, Refused<MemDis
     ensures goes_on { IfOk result (λ back. GoesOnFinished (disk_in back)) }
     ensures fault { IfErr result (λ back. IsWantOfRoom (Grew disk.failures back.disk.failures) back.fault) }
 {
-    a_picture_stores_one_table_of_all_layouts();
+    an_image_stores_one_table_of_all_layouts();
     stopped_migrations_go_on();
     match migrate::<MemDisk, TableFile<MemDisk>, SecondFile<MemDisk>, FirstFile<MemDisk>>(
         alloc, disk,

@@ -146,5 +146,5 @@ def is_stated(project: Project, source: Source, item: Item, member: Item) -> boo
 
 
 def is_law(declared: Definition) -> bool:
-    """A ghost member that is a law begins with what it holds for: `{ (picture : Picture) → ... }`."""
+    """A ghost member that is a law begins with what it holds for: `{ (image : Image) → ... }`."""
     return "".join(declared.text).split("{", 1)[1].lstrip().startswith("(") and "→ Type 0 }" not in declared.text[-1]

@@ -22,7 +22,7 @@ use Rattle.btree.specs.Entries.{Ascend, find_entry, first_key, put_entry}
 use Rattle.btree.specs.Tree.{entries_below, pages_below, IsTree}
 use Rattle.btree.specs.lemmas.Once.{once_first}
 use Rattle.btree.specs.lemmas.Parts.{HasFirst, all_got, first_below}
-use Rattle.btree.specs.lemmas.Growth.{AreWritten, IsGrowing, IsGrown}
+use Rattle.btree.specs.lemmas.Growth.{AreWritten, IsGrowing, IsGrownTree}
 use Rattle.btree.specs.lemmas.Spots.{LeadsTo}
 use Rattle.btree.specs.lemmas.Causes.{WriteCause}
 use Rattle.btree.proofs.puts.Faults.{not_written, refused_after}
@@ -81,7 +81,7 @@ module _ (w : Widths) (key value : List ℕ) (q : ℕ) (top : Item) (old new : S
   pub leaf_in_place : (d : ℕ) → IsGrowing w d q old → first_key (entries_below w (reads old) d q) ≡ Some top.0 → IsPage w Leaf (reads old q)
       → (Ascend (items_in w Leaf (reads old q)) → first_key (items_in w Leaf (reads old q)) ≡ Some top.0
       → AreWritten w Leaf q (put_entry (items_in w Leaf (reads old q)) key value) (top ∷ []) old new)
-      → IsGrown w key value d q (top ∷ []) old new
+      → IsGrownTree w key value d q (top ∷ []) old new
   leaf_in_place zero growing first leaf written =
       leaf_grown w key value q (put_entry (items_in w Leaf (reads old q)) key value) (top ∷ []) old new honest growing refl (written growing.ascending first)
   leaf_in_place (suc d) growing first leaf written = absurd (omega (arith, leaf.first, growing.tree.0.first))
@@ -90,7 +90,7 @@ module _ (w : Widths) (key value : List ℕ) (q : ℕ) (top : Item) (old new : S
   module _ (child : ℕ) (works : StoreWorks old new) (fresh : mark old.marks q ≡ Fresh) (is_page : 1 ≤ q) (there : q < length old.marks)
       (way : LeadsTo w (reads old q) key child)
       (grow : (e : ℕ) (t : Item) → IsGrowing w e child old → child_of t ≡ child → first_key (entries_below w (reads old) e child) ≡ Some t.0
-      → IsGrown w key value e child (t ∷ []) old new) where
+      → IsGrownTree w key value e child (t ∷ []) old new) where
     abbrev i : ℕ
     i = way.place - 1
 
@@ -100,10 +100,10 @@ module _ (w : Widths) (key value : List ℕ) (q : ℕ) (top : Item) (old new : S
     abbrev its : List Item
     its = items_in w Inner (reads old q)
 
-    below_grown : (d : ℕ) → IsGrowing w (suc d) q old → IsGrown w key value d (child_of c) (c ∷ []) old new
+    below_grown : (d : ℕ) → IsGrowing w (suc d) q old → IsGrownTree w key value d (child_of c) (c ∷ []) old new
     below_grown d growing =
         let branch : IsBranch w (reads old) d c = all_got (IsBranch w (reads old) d) its i c growing.tree.1 way.got in
-        subst (λ (n : ℕ). IsGrown w key value d n (c ∷ []) old new) way.leads
+        subst (λ (n : ℕ). IsGrownTree w key value d n (c ∷ []) old new) way.leads
         (grow d c (subst (λ (n : ℕ). IsGrowing w d n old) (sym way.leads) (growing_child w d q i c old way.got growing)) (sym way.leads)
         (subst (λ (n : ℕ). first_key (entries_below w (reads old) d n) ≡ Some c.0) (sym way.leads) branch.1))
 
@@ -114,7 +114,7 @@ module _ (w : Widths) (key value : List ℕ) (q : ℕ) (top : Item) (old new : S
         let below : List ℕ = pages_below w (reads old) d (child_of c) in
         let right : List ℕ = pages_right w d q i c old way.got growing in
         let others : List ℕ = flat_map (λ e. pages_below w (reads new) d (child_of e)) (c ∷ []) in
-        let grown : IsGrown w key value d (child_of c) (c ∷ []) old new = below_grown d growing in
+        let grown : IsGrownTree w key value d (child_of c) (c ∷ []) old new = below_grown d growing in
         let not_below : Contains below q → ⊥ = λ here.
         once_first q (left ++ (below ++ right)) (subst IsOnce (pages_parts w d q i c old way.got growing) growing.once)
         (Contains-append_right left (below ++ right) q (Contains-append_left below right q here)) in
@@ -132,7 +132,7 @@ module _ (w : Widths) (key value : List ℕ) (q : ℕ) (top : Item) (old new : S
         (λ h p other. refl) refl
 
     pub inner_in_place : (d : ℕ) → IsGrowing w d q old → first_key (entries_below w (reads old) d q) ≡ Some top.0 → IsPage w Inner (reads old q)
-        → IsGrown w key value d q (top ∷ []) old new
+        → IsGrownTree w key value d q (top ∷ []) old new
     inner_in_place zero growing first inner = absurd (omega (arith, inner.first, growing.tree.first))
     inner_in_place (suc d) growing first inner =
         inner_grown w key value d q i way.place c (c ∷ []) (top ∷ []) old new new honest works way.got growing refl
@@ -168,7 +168,7 @@ module _ (w : Widths) (key : List ℕ) (q : ℕ) (old : Store) where
 pub put_there : (w : Widths) (key value : List ℕ) (root : ℕ) (pages : List ℕ) (es : List Item) (old new : Store) → StoreWorks old new → (root ≡ 0 → ⊥)
     → length old.marks ≤ 1048576 → root < 2 ^ 32 → HoldsMap w old root pages es → AreHeld old.marks pages
     → ((d : ℕ) (top : Item) → IsGrowing w d root old → child_of top ≡ root → first_key (entries_below w (reads old) d root) ≡ Some top.0
-    → IsGrown w key value d root (top ∷ []) old new)
+    → IsGrownTree w key value d root (top ∷ []) old new)
     → (others : List ℕ) × HoldsMap w new root others (put_entry es key value) × TakePlace pages others old new
 put_there w key value root pages es old new works some few fits holds held grow =
     let top : Item = (take w.key (drop 4 (reads old root)), big_bytes 4 root) in

@@ -23,7 +23,7 @@ use Rattle.btree.specs.lemmas.Parts.{HasFirst, all_got, contains_part, flat_at, 
 use Rattle.btree.specs.lemmas.Replacements.{take_then, only_one}
 use Rattle.btree.specs.Tree.{entries_below, pages_below, IsTree}
 use Rattle.page_store.specs.Pages.{IsOnce}
-use Rattle.btree.specs.lemmas.Growth.{AreThere, AreWritten, IsGrowing, IsGrown, children}
+use Rattle.btree.specs.lemmas.Growth.{AreThere, AreWritten, IsGrowing, IsGrownTree, children}
 use Rattle.btree.specs.lemmas.Once.{contains_cons, Apart, once_append, once_apart, once_cons, once_first, once_left, once_none, once_rest, once_right}
 use Rattle.btree.proofs.puts.Replacements.{IsUnion, held_not_free, take_beside}
 
@@ -375,7 +375,7 @@ module _ (w : Widths) (key value : List ℕ) (d q i place : ℕ) (c : Item) (top
     (honest : IsTrue old.disk.honest) (works : StoreWorks old mid)
     (got : slice_get (items_in w Inner (reads old q)) i ≡ Some c) (growing : IsGrowing w (suc d) q old) (at : i ≡ place - 1)
     (fits : IsPlace (items_in w Inner (reads old q)) key place)
-    (grown : IsGrown w key value d (child_of c) tops old mid)
+    (grown : IsGrownTree w key value d (child_of c) tops old mid)
     (written : AreWritten w Inner q (take i (items_in w Inner (reads old q)) ++ (tops ++ drop (suc i) (items_in w Inner (reads old q)))) heads mid new) where
   abbrev its : List Item
   its = items_in w Inner (reads old q)
@@ -461,7 +461,7 @@ module _ (w : Widths) (key value : List ℕ) (d q i place : ℕ) (c : Item) (top
   union : IsUnion (children heads) (a ++ (b' ++ e)) all
   union = subst (λ (ps : List ℕ). IsUnion (children heads) ps all) pages_new (pages_up w d (reads new) heads)
 
-  pub inner_grown : IsGrown w key value (suc d) q heads old new
+  pub inner_grown : IsGrownTree w key value (suc d) q heads old new
   inner_grown = record {
     trees = branches_up w d (reads new) heads (written.pages now)
         (subst (All (IsBranch w (reads new) d)) (sym written_items) (branches_stay w d (reads mid) (reads new) list list_same branches_mid));
@@ -486,7 +486,7 @@ module _ (w : Widths) (key value : List ℕ) (d q i place : ℕ) (c : Item) (top
 
 -- an entry is put in a leaf
 pub leaf_grown : (w : Widths) (key value : List ℕ) (q : ℕ) (entries heads : List Item) (old new : Store) → IsTrue old.disk.honest → IsGrowing w 0 q old
-    → entries ≡ put_entry (items_in w Leaf (reads old q)) key value → AreWritten w Leaf q entries heads old new → IsGrown w key value 0 q heads old new
+    → entries ≡ put_entry (items_in w Leaf (reads old q)) key value → AreWritten w Leaf q entries heads old new → IsGrownTree w key value 0 q heads old new
 leaf_grown w key value q entries heads old new honest growing put written =
     let same : flat_map (λ c. pages_below w (reads new) 0 (child_of c)) heads ≡ children heads = flat_map_single child_of heads in
     record {
@@ -527,7 +527,7 @@ module _ (old mid : Store) (marks : mid.marks ≡ old.marks) (same : reads mid �
       marked p = ap (λ (ms : List Mark). mark ms p) marks
 
   pub grown_same : (w : Widths) (key value : List ℕ) (d q : ℕ) (tops : List Item) (new : Store) → (IsTrue old.disk.honest → IsTrue mid.disk.honest)
-      → IsGrown w key value d q tops mid new → IsGrown w key value d q tops old new
+      → IsGrownTree w key value d q tops mid new → IsGrownTree w key value d q tops old new
   grown_same w key value d q tops new honest grown = record {
     trees = grown.trees;
     entries = grown.entries ∙ ap (λ (bytes : ℕ → List ℕ). put_entry (entries_below w bytes d q) key value) same;
@@ -544,7 +544,7 @@ module _ (w : Widths) (key value : List ℕ) (q : ℕ) (old mid : Store) (page :
     (same : reads mid ≡ reads old) (is : page ≡ reads old q) where
   pub put_in_leaf : (d : ℕ) (new : Store) (entries heads : List Item) → IsPage w Leaf page
       → (Ascend (items_in w Leaf page) → entries ≡ put_entry (items_in w Leaf page) key value)
-      → IsGrowing w d q old → AreWritten w Leaf q entries heads mid new → IsGrown w key value d q heads old new
+      → IsGrowing w d q old → AreWritten w Leaf q entries heads mid new → IsGrownTree w key value d q heads old new
   put_in_leaf zero new entries heads leaf put growing written =
       let bytes : page ≡ reads mid q = is ∙ ap (λ (bytes : ℕ → List ℕ). bytes q) (sym same) in
       grown_same old mid marks same w key value 0 q heads new (still_honest works.goes_on)
@@ -557,10 +557,10 @@ module _ (w : Widths) (key value : List ℕ) (q : ℕ) (old mid : Store) (page :
 
   pub put_in_inner : (d i place child : ℕ) (c : Item) (below new : Store) (tops heads : List Item) → IsPage w Inner page → i ≡ place - 1 → child ≡ child_of c
       → (Ascend (items_in w Inner page) → IsPlace (items_in w Inner page) key place) → slice_get (items_in w Inner page) i ≡ Some c
-      → StoreWorks mid below → ((e : ℕ) → IsGrowing w e child mid → IsGrown w key value e child tops mid below)
+      → StoreWorks mid below → ((e : ℕ) → IsGrowing w e child mid → IsGrownTree w key value e child tops mid below)
       → IsGrowing w d q old → (reads below q ≡ page → AreWritten w Inner q
       (take i (items_in w Inner page) ++ (tops ++ drop (suc i) (items_in w Inner page))) heads below new)
-      → IsGrown w key value d q heads old new
+      → IsGrownTree w key value d q heads old new
   put_in_inner zero i place child c below new tops heads inner at leads fits got more grow growing written =
       let here : IsPage w Inner (reads old q) = subst (IsPage w Inner) is inner in
       absurd (omega (arith, here.first, growing.tree.first))
@@ -569,9 +569,9 @@ module _ (w : Widths) (key value : List ℕ) (q : ℕ) (old mid : Store) (page :
       let sorted : Ascend (items_in w Inner page) = subst (λ (b : List ℕ). Ascend (items_in w Inner b)) (sym is) (items_ascend w d q i c old here growing) in
       let its : IsGrowing w d child mid =
       subst (λ (n : ℕ). IsGrowing w d n mid) (sym leads) (growing_same old mid marks same w d (child_of c) (growing_child w d q i c old here growing)) in
-      let grown : IsGrown w key value d (child_of c) tops old below =
+      let grown : IsGrownTree w key value d (child_of c) tops old below =
       grown_same old mid marks same w key value d (child_of c) tops below (still_honest works.goes_on)
-      (subst (λ (n : ℕ). IsGrown w key value d n tops mid below) leads (grow d its)) in
+      (subst (λ (n : ℕ). IsGrownTree w key value d n tops mid below) leads (grow d its)) in
       inner_grown w key value d q i place c tops heads old below new honest (works_then works more) here growing at
       (subst (λ (b : List ℕ). IsPlace (items_in w Inner b) key place) is (fits sorted)) grown
       (subst (λ (b : List ℕ). AreWritten w Inner q (take i (items_in w Inner b) ++ (tops ++ drop (suc i) (items_in w Inner b))) heads below new) is

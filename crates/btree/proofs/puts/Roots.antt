@@ -19,7 +19,7 @@ use Rattle.btree.specs.lemmas.PutEntries.{puts_ascend}
 use Rattle.btree.specs.lemmas.Replacements.{take_then, only_one}
 use Rattle.btree.specs.Tree.{entries_below, pages_below, IsTree, IsRooted, IsEmpty, IsMap}
 use Rattle.btree.specs.lemmas.Causes.{WriteCause, BelowCause, IsReadable}
-use Rattle.btree.specs.lemmas.Growth.{IsGrowing, IsGrown}
+use Rattle.btree.specs.lemmas.Growth.{IsGrowing, IsGrownTree}
 use Rattle.btree.specs.lemmas.Once.{contains_cons, once_cons}
 use Rattle.std.proofs.lemmas.Result.{IfErr-weaker}
 use Rattle.page_store.specs.lemmas.Frames.{refused_since}
@@ -115,11 +115,11 @@ one_listed (c ∷ d ∷ tops) long = absurd (omega (arith, long))
 module _ (w : Widths) (key value : List ℕ) (root : ℕ) (pages : List ℕ) (es : List Item) (tops : List Item) (old mid : Store)
     (works : StoreWorks old mid) (some : root ≡ 0 → ⊥) (few : length old.marks ≤ 1048576)
     (holds : HoldsMap w old root pages es) (held : AreHeld old.marks pages)
-    (grow : (d : ℕ) → IsGrowing w d root old → IsGrown w key value d root tops old mid) where
+    (grow : (d : ℕ) → IsGrowing w d root old → IsGrownTree w key value d root tops old mid) where
   map : IsRooted w (length old.marks) root pages es (reads old)
   map = rooted w (length old.marks) root pages es (reads old) some holds
 
-  grown : IsGrown w key value map.depth root tops old mid
+  grown : IsGrownTree w key value map.depth root tops old mid
   grown = grow map.depth (grows w root pages es old map held)
 
   put_is : put_entry (entries_below w (reads old) map.depth root) key value ≡ put_entry es key value

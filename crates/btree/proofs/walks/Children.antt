@@ -24,7 +24,7 @@ use Rattle.btree.specs.Walks.{IsRefusedAmong}
 use Rattle.btree.specs.lemmas.WalkedPages.{AreReady, ArePassed, IsWalked, WalkBelowCause}
 use Rattle.btree.specs.lemmas.MarkedReads.{IsPageTaken, TakeCause}
 use Rattle.page_store.specs.Frames.{OnlyMarks}
-use Rattle.btree.specs.lemmas.Visits.{AscendFrom, IsTold, TellCause}
+use Rattle.btree.specs.lemmas.Visits.{AscendFrom, HasVisited, TellCause}
 use Rattle.btree.proofs.walks.MarkedPages.{reads_marked}
 use Rattle.btree.proofs.walks.WalkedPages.{passed_page, passed_then, ready_back, ready_front}
 use Rattle.btree.proofs.walks.Visits.{refused_later}
@@ -137,7 +137,7 @@ over_all w bytes d page body k old now last between told more first is form many
 -- a leaf is walked
 pub leaf_walked : (w : Widths) (d page : ℕ) (body : List ℕ) (old new : StoreStated) (last now : List ℕ) (told more : List Item → Type 0)
     (first : List ℕ) → d ≡ 0 → body ≡ reads old page → IsPageTaken w Leaf page body old new
-    → first_key (items_in w Leaf body) ≡ Some first → IsTold (items_in w Leaf body) last now told more
+    → first_key (items_in w Leaf body) ≡ Some first → HasVisited (items_in w Leaf body) last now told more
     → IsWalked w (reads old) d page first old new last now told more
 leaf_walked w d page body old new last now told more first none is taken first_is all =
     let one = passed_page w Leaf page body old new last told taken in
@@ -148,7 +148,7 @@ leaf_walked w d page body old new last now told more first none is taken first_i
         marked = one.marked;
         once = one.once;
         there = one.there;
-        entries = subst (λ (b : List ℕ). IsTold (items_in w Leaf b) last now told more) is all;
+        entries = subst (λ (b : List ℕ). HasVisited (items_in w Leaf b) last now told more) is all;
       };
     })
 

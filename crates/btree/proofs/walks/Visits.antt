@@ -10,7 +10,7 @@ use Rattle.btree.specs.lemmas.Order.{Past, ascend_cons, ascend_first, ascend_non
 use Rattle.btree.specs.declared.walk.fault.WalkFault.{WalkFault}
 use Rattle.btree.specs.declared.walk.fault.WalkFault.TheVariants.{Store, Refused}
 use Rattle.btree.specs.Walks.{IsRefusedAmong}
-use Rattle.btree.specs.lemmas.Visits.{AscendFrom, last_key, IsTold, TellCause}
+use Rattle.btree.specs.lemmas.Visits.{AscendFrom, last_key, HasVisited, TellCause}
 
 pub last_more : (last : List ℕ) (es fs : List Item) → last_key last (es ++ fs) ≡ last_key (last_key last es) fs
 last_more last [] fs = refl
@@ -41,11 +41,11 @@ pub ascends_from : (last : List ℕ) (es : List Item) → Past es last → Ascen
 ascends_from last [] past ascend = tt
 ascends_from last (e ∷ es) past ascend = (past.0, ascends_from e.0 es (ascend_first e es ascend) (ascend_rest e es ascend))
 
-pub told_none : (last : List ℕ) (told : List Item → Type 0) → IsTold [] last last told told
+pub told_none : (last : List ℕ) (told : List Item → Type 0) → HasVisited [] last last told told
 told_none last told = record { ascending = tt; now_is = refl; told_is = λ before was. subst told (sym (append-nil before)) was }
 
-pub told_then : (es fs : List Item) (last mid now : List ℕ) (told more most : List Item → Type 0) → IsTold es last mid told more
-    → IsTold fs mid now more most → IsTold (es ++ fs) last now told most
+pub told_then : (es fs : List Item) (last mid now : List ℕ) (told more most : List Item → Type 0) → HasVisited es last mid told more
+    → HasVisited fs mid now more most → HasVisited (es ++ fs) last now told most
 told_then es fs last mid now told more most one two = record {
   ascending = from_both last es fs one.ascending (subst (λ (k : List ℕ). AscendFrom k fs) one.now_is two.ascending);
   now_is = two.now_is ∙ ap (λ (k : List ℕ). last_key k fs) one.now_is ∙ sym (last_more last es fs);
@@ -67,11 +67,11 @@ refused_later refuses told front es back all is refused = record {
 
 -- one entry more is told, or is not
 module _ (items : List Item) (k : ℕ) (e : Item) (first last : List ℕ) (told more : List Item → Type 0)
-    (so_far : IsTold (take k items) first last told more) (got : slice_get items k ≡ Some e) where
-  pub told_more : (now : List ℕ) (most : List Item → Type 0) → IsTold (e ∷ []) last now more most → IsTold (take (k + 1) items) first now told most
+    (so_far : HasVisited (take k items) first last told more) (got : slice_get items k ≡ Some e) where
+  pub told_more : (now : List ℕ) (most : List Item → Type 0) → HasVisited (e ∷ []) last now more most → HasVisited (take (k + 1) items) first now told most
   told_more now most one =
       let on : k + 1 ≡ suc k = omega arith in
-      subst (λ (es : List Item). IsTold es first now told most) (sym (ap (λ (n : ℕ). take n items) on ∙ take_got items k e got))
+      subst (λ (es : List Item). HasVisited es first now told most) (sym (ap (λ (n : ℕ). take n items) on ∙ take_got items k e got))
       (told_then (take k items) (e ∷ []) first last now told more most so_far one)
 
   pub tell_fails : (refuses : List Item → Item → Type 0) (fault : WalkFault) → TellCause (e ∷ []) last refuses more fault
@@ -91,5 +91,5 @@ module _ (items : List Item) (k : ℕ) (e : Item) (first last : List ℕ) (told 
       (cause (before ++ take k items) (so_far.told_is before was))
 
 pub told_all : (items : List Item) (k : ℕ) (first last : List ℕ) (told more : List Item → Type 0) → length items ≤ k
-    → IsTold (take k items) first last told more → IsTold items first last told more
-told_all items k first last told more many so_far = subst (λ (es : List Item). IsTold es first last told more) (take_all k items many) so_far
+    → HasVisited (take k items) first last told more → HasVisited items first last told more
+told_all items k first last told more many so_far = subst (λ (es : List Item). HasVisited es first last told more) (take_all k items many) so_far

@@ -67,7 +67,7 @@ pub record IsGrowing (w : Widths) (d page : ℕ) (store : Store) : Type 0 where
   pub once : IsOnce (pages_below w (reads store) d page)
 
 -- the trees that these items lead to take its place, with this value at this key
-pub record IsGrown (w : Widths) (key value : List ℕ) (d page : ℕ) (tops : List Item) (old new : Store) : Type 0 where
+pub record IsGrownTree (w : Widths) (key value : List ℕ) (d page : ℕ) (tops : List Item) (old new : Store) : Type 0 where
   pub trees : All (λ c. IsTree w (reads new) d (child_of c) × (first_key (entries_below w (reads new) d (child_of c)) ≡ Some c.0)) tops
   pub entries : flat_map (λ c. entries_below w (reads new) d (child_of c)) tops ≡ put_entry (entries_below w (reads old) d page) key value
   pub place : TakePlace (pages_below w (reads old) d page) (flat_map (λ c. pages_below w (reads new) d (child_of c)) tops) old new

@@ -11,14 +11,14 @@ abbrev pub listed : Widths → Kind → ℕ → List ℕ → List Item
 listed w kind count bytes = items_of w.key (behind_of w kind) count bytes
 
 -- there are as many bytes as this many items take
-abbrev pub AreWhole : Widths → Kind → ℕ → List ℕ → Type 0
-AreWhole w kind count bytes = length bytes ≡ count * item_width w kind
+abbrev pub AreItemBytes : Widths → Kind → ℕ → List ℕ → Type 0
+AreItemBytes w kind count bytes = length bytes ≡ count * item_width w kind
 
 -- there is one item or there are two, and they lead to pages
 pub record AreFewTops (w : Widths) (count : ℕ) (bytes : List ℕ) : Type 0 where
   pub some : 1 ≤ count
   pub few : count ≤ 2
-  pub whole : AreWhole w Inner count bytes
+  pub whole : AreItemBytes w Inner count bytes
 
 -- where so many items are cut in two pages: where none of the old items is behind the new ones, as few stay for the second
 -- as a page may have, and else half

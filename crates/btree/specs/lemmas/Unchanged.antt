@@ -20,7 +20,7 @@ unchanged_refl store = record {
   closed = refl;
   shown = λ honest. refl;
   failed_writes = refl;
-  leaves = λ honest. leaves_now store.disk (λ picture left. left);
+  leaves = λ honest. leaves_now store.disk (λ image left. left);
   holds = refl;
 }
 
@@ -38,7 +38,7 @@ unchanged_then one two first second = record {
   shown = λ honest. second.shown (still_honest one.goes_on honest) ∙ first.shown honest;
   leaves = λ honest.
       leaves_then two.goes_on (first.leaves honest)
-      (leaves_more (λ picture left. subst (λ (s : Shown). MayLeave s picture) (first.shown honest) left)
+      (leaves_more (λ image left. subst (λ (s : Shown). MayLeave s image) (first.shown honest) left)
       (second.leaves (still_honest one.goes_on honest)));
   holds = second.holds ∙ first.holds;
 }

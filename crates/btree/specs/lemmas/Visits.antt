@@ -19,7 +19,7 @@ last_key last (e ∷ es) = last_key e.0 es
 
 -- the visitor was told of these entries, which ascend from the last key; `now` is the last key after them; `told` says
 -- of which entries it may have been told before, and `more` of which after
-pub record IsTold (es : List Item) (last now : List ℕ) (told more : List Item → Type 0) : Type 0 where
+pub record HasVisited (es : List Item) (last now : List ℕ) (told more : List Item → Type 0) : Type 0 where
   pub ascending : AscendFrom last es
   pub now_is : now ≡ last_key last es
   pub told_is : (before : List Item) → told before → more (before ++ es)

@@ -11,7 +11,7 @@ use Rattle.page_store.specs.Pages.{IsOnce, AreWaiting}
 use Rattle.btree.specs.declared.walk.fault.WalkFault.{WalkFault}
 use Rattle.btree.specs.declared.walk.fault.WalkFault.TheVariants.{Store, Refused}
 use Rattle.btree.specs.Walks.{MarksPages, IsRefusedAmong}
-use Rattle.btree.specs.lemmas.Visits.{AscendFrom, IsTold}
+use Rattle.btree.specs.lemmas.Visits.{AscendFrom, HasVisited}
 
 -- these pages can be walked: they wait, each once, and their entries ascend from the last key
 pub record AreReady (pages : List ℕ) (es : List Item) (store : StoreStated) (last : List ℕ) : Type 0 where
@@ -25,7 +25,7 @@ pub record ArePassed (pages : List ℕ) (es : List Item) (old new : StoreStated)
   pub marked : MarksPages pages old new
   pub once : IsOnce pages
   pub there : (p : ℕ) → Contains pages p → (1 ≤ p) × (p < length old.marks)
-  pub entries : IsTold es last now told more
+  pub entries : HasVisited es last now told more
 
 -- the tree of this depth below this page is walked; `first` is its first key
 pub record IsWalked (w : Widths) (bytes : ℕ → List ℕ) (d page : ℕ) (first : List ℕ) (old new : StoreStated) (last now : List ℕ)

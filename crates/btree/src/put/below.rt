@@ -3,7 +3,7 @@ ghost use Rattle.std.specs.Prelude.{◌≡◌, ◌≤◌, ◌+◌, ◌*◌, ℕ,
 ghost use Rattle.page_store.specs.Frames.{PagesWritten, PagesRefused};
 ghost use Rattle.btree.specs.declared.page.kind.Kind.TheVariants.{Inner};
 ghost use Rattle.btree.specs.lemmas.Causes.{BelowCause};
-ghost use Rattle.btree.specs.lemmas.Growth.{IsGrowing, IsGrown};
+ghost use Rattle.btree.specs.lemmas.Growth.{IsGrowing, IsGrownTree};
 ghost use Rattle.btree.specs.lemmas.PutItems.{listed, AreFewTops};
 
 use crate::page::{Kind, Widths, item_at, kind_of, place_of};
@@ -25,7 +25,7 @@ pub fn put_below<P: Pages>(
     requires key { length key.now ≡ widths.key }
     requires value { length value.now ≡ widths.value }
     ensures grown { IsTrue (P.store store.old).disk.honest → (d : ℕ) → IsGrowing widths d page (P.store store.old)
-        → IfOk result (λ tops. IsGrown widths key.now value.now d page
+        → IfOk result (λ tops. IsGrownTree widths key.now value.now d page
         (listed widths Inner tops.count tops.bytes.items) (P.store store.old) (P.store store.new)) }
     ensures tops { IfOk result (λ tops. AreFewTops widths tops.count tops.bytes.items) }
     ensures ok { OnOk result (PagesWritten (2 * levels + 2) (P.store store.old) (P.store store.new)) }

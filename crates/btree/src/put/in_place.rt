@@ -11,7 +11,7 @@ ghost use Rattle.btree.specs.declared.page.kind.TheConstants.{ROOM};
 ghost use Rattle.btree.specs.Entries.{Ascend, find_entry, first_key, put_entry};
 ghost use Rattle.btree.specs.Tree.{entries_below};
 ghost use Rattle.btree.specs.lemmas.Causes.{WriteCause};
-ghost use Rattle.btree.specs.lemmas.Growth.{AreWritten, IsGrowing, IsGrown};
+ghost use Rattle.btree.specs.lemmas.Growth.{AreWritten, IsGrowing, IsGrownTree};
 ghost use Rattle.btree.specs.lemmas.Spots.{LeadsTo, IsSpot};
 
 use crate::page::{Kind, Widths, item_at, kind_of, place_of};
@@ -121,7 +121,7 @@ pub fn put_in_place<P: Pages>(
     ensures grown { IsTrue (P.store store.old).disk.honest → (d : ℕ) (top : Item) → IsGrowing widths d page (P.store store.old)
         → child_of top ≡ page → first_key (entries_below widths (reads (P.store store.old)) d page) ≡ Some top.0
         → IfOk result (λ done. IsTrue done
-        → IsGrown widths key.now value.now d page (top ∷ []) (P.store store.old) (P.store store.new)) }
+        → IsGrownTree widths key.now value.now d page (top ∷ []) (P.store store.old) (P.store store.new)) }
     ensures new_key { IsTrue (P.store store.old).disk.honest → (d : ℕ) → IsGrowing widths d page (P.store store.old)
         → IfOk result (λ done. IsTrue done → IsTrue only_new
         → None ≡ find_entry (entries_below widths (reads (P.store store.old)) d page) key.now) }

@@ -8,7 +8,7 @@ ghost use Rattle.page_store.specs.Page.{StaysElsewhere};
 ghost use Rattle.btree.specs.declared.page.kind.Kind.TheVariants.{Leaf, Inner};
 ghost use Rattle.btree.specs.Page.{Item, behind_of, child_of, count_in, item_width, items_in, items_of, least_of, IsPage};
 ghost use Rattle.btree.specs.Entries.{Ascend, find_entry, put_entry};
-ghost use Rattle.btree.specs.lemmas.PutItems.{listed, AreWhole, CutsAt, IsCut};
+ghost use Rattle.btree.specs.lemmas.PutItems.{listed, AreItemBytes, CutsAt, IsCut};
 ghost use Rattle.btree.specs.declared.page.kind.TheConstants.{ROOM};
 
 use crate::page::{HEAD, Kind, Widths, behind_of, count_of, item_at, place_of, set_count};
@@ -65,9 +65,9 @@ fn put_bytes<const N: usize>(bytes: &mut ArrayVec<u8, N>, more: &[u8])
 pub fn lead_to(widths: Widths, items: &mut FewItems, key: &[u8], page: u32)
     requires key { length key.now ≡ widths.key }
     requires few { items.old.count ≤ 1 }
-    requires whole { AreWhole widths Inner items.old.count items.old.bytes.items }
+    requires whole { AreItemBytes widths Inner items.old.count items.old.bytes.items }
     ensures count { items.new.count ≡ items.old.count + 1 }
-    ensures whole { AreWhole widths Inner items.new.count items.new.bytes.items }
+    ensures whole { AreItemBytes widths Inner items.new.count items.new.bytes.items }
     ensures listed { listed widths Inner items.new.count items.new.bytes.items
         ≡ listed widths Inner items.old.count items.old.bytes.items ++ (key.now, big_bytes 4 page) ∷ [] }
 {
@@ -112,7 +112,7 @@ pub fn spliced(
     ensures count { result.count ≡ from + count + (count_in page.now - to) }
     ensures cuts { CutsAt kind result.count (count_in page.now - to) result.cut }
     ensures cut { ROOM < result.count * item_width widths kind → IsCut widths kind result.count result.cut }
-    ensures whole { AreWhole widths kind result.count result.bytes.items }
+    ensures whole { AreItemBytes widths kind result.count result.bytes.items }
     ensures listed { listed widths kind result.count result.bytes.items
         ≡ take from (items_in widths kind page.now) ++ (items_of widths.key (behind_of widths kind) count bytes.now
         ++ drop to (items_in widths kind page.now)) }
@@ -205,7 +205,7 @@ pub fn new_entry(widths: Widths, key: &[u8], value: &[u8]) -> FewItems
     requires key { length key.now ≡ widths.key }
     requires value { length value.now ≡ widths.value }
     ensures count { result.count ≡ 1 }
-    ensures whole { AreWhole widths Leaf result.count result.bytes.items }
+    ensures whole { AreItemBytes widths Leaf result.count result.bytes.items }
     ensures listed { listed widths Leaf result.count result.bytes.items ≡ (key.now, value.now) ∷ [] }
 {
     let mut entry = no_few_items();
@@ -218,7 +218,7 @@ pub fn new_entry(widths: Widths, key: &[u8], value: &[u8]) -> FewItems
 /// The page that the first item leads to.
 pub fn first_child(widths: Widths, items: &FewItems) -> u32
     requires some { 1 ≤ items.now.count }
-    requires whole { AreWhole widths Inner items.now.count items.now.bytes.items }
+    requires whole { AreItemBytes widths Inner items.now.count items.now.bytes.items }
     ensures { (c : Item) → slice_get (listed widths Inner items.now.count items.now.bytes.items) 0 ≡ Some c → result ≡ child_of c }
 {
     BigEndian::read_u32(&items.bytes[widths.key..widths.key + 4])
@@ -228,7 +228,7 @@ pub fn first_child(widths: Widths, items: &FewItems) -> u32
 pub fn has_item(widths: Widths, page: &[u8; 4096], place: usize, items: &FewItems) -> bool
     requires page { IsPage widths Inner page.now }
     requires within { place < count_in page.now }
-    requires whole { AreWhole widths Inner items.now.count items.now.bytes.items }
+    requires whole { AreItemBytes widths Inner items.now.count items.now.bytes.items }
     ensures { IsTrue result → take place (items_in widths Inner page.now)
         ++ (listed widths Inner items.now.count items.now.bytes.items ++ drop (place + 1) (items_in widths Inner page.now))
         ≡ items_in widths Inner page.now }
@@ -245,7 +245,7 @@ pub fn has_item(widths: Widths, page: &[u8; 4096], place: usize, items: &FewItem
 pub fn one_lead(widths: Widths, key: &[u8], page: u32) -> FewItems
     requires { length key.now ≡ widths.key }
     ensures count { result.count ≡ 1 }
-    ensures whole { AreWhole widths Inner result.count result.bytes.items }
+    ensures whole { AreItemBytes widths Inner result.count result.bytes.items }
     ensures listed { listed widths Inner result.count result.bytes.items ≡ (key.now, big_bytes 4 page) ∷ [] }
 {
     let mut items = no_few_items();

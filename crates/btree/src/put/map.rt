@@ -9,7 +9,7 @@ ghost use Rattle.btree.specs.Entries.{put_entry};
 ghost use Rattle.btree.specs.declared.map.limits.TheConstants.{MAX_LEVELS};
 ghost use Rattle.btree.specs.lemmas.Causes.{WriteCause};
 ghost use Rattle.btree.specs.lemmas.Growth.{IsOnNewPage};
-ghost use Rattle.btree.specs.lemmas.PutItems.{listed, AreWhole};
+ghost use Rattle.btree.specs.lemmas.PutItems.{listed, AreItemBytes};
 
 use crate::map::MAX_LEVELS;
 use crate::page::{Kind, Widths};
@@ -93,7 +93,7 @@ fn on_new_page<P: Pages>(
 ) -> Result<u32, PageFault>
     requires enough { least_of kind ≤ items.now.count }
     requires few { items.now.count ≤ 2 }
-    requires whole { AreWhole widths kind items.now.count items.now.bytes.items }
+    requires whole { AreItemBytes widths kind items.now.count items.now.bytes.items }
     ensures ok { IfOk result (IsOnNewPage widths kind (listed widths kind items.now.count items.now.bytes.items)
         (P.store store.old) (P.store store.new)) }
     ensures err { IfErr result (PagesRefused PageFault.Disk WriteCause 1 (P.store store.old) (P.store store.new)) }

@@ -6,7 +6,7 @@ ghost use Rattle.btree.specs.declared.page.kind.Kind.TheVariants.{Inner};
 ghost use Rattle.btree.specs.Page.{count_in, item_width, items_in, least_of, IsPage};
 ghost use Rattle.btree.specs.lemmas.Causes.{WriteCause};
 ghost use Rattle.btree.specs.lemmas.Growth.{AreWritten};
-ghost use Rattle.btree.specs.lemmas.PutItems.{listed, AreFewTops, AreWhole, IsCut};
+ghost use Rattle.btree.specs.lemmas.PutItems.{listed, AreFewTops, AreItemBytes, IsCut};
 ghost use Rattle.btree.specs.declared.page.kind.TheConstants.{ROOM};
 
 use crate::page::{HEAD, Kind, ROOM, Widths, behind_of, count_of};
@@ -28,11 +28,11 @@ fn write_two<P: Pages>(
     requires is_page { 1 ≤ page }
     requires there { page < length (P.store store.old).marks }
     requires cut { IsCut widths kind items.now.count items.now.cut }
-    requires whole { AreWhole widths kind items.now.count items.now.bytes.items }
+    requires whole { AreItemBytes widths kind items.now.count items.now.bytes.items }
     ensures written { IfOk result (λ tops. AreWritten widths kind page (listed widths kind items.now.count items.now.bytes.items)
         (listed widths Inner tops.count tops.bytes.items) (P.store store.old) (P.store store.new)) }
     ensures two { IfOk result (λ tops. tops.count ≡ 2) }
-    ensures whole { IfOk result (λ tops. AreWhole widths Inner tops.count tops.bytes.items) }
+    ensures whole { IfOk result (λ tops. AreItemBytes widths Inner tops.count tops.bytes.items) }
     ensures ok { OnOk result (PagesWritten 2 (P.store store.old) (P.store store.new)) }
     ensures err { IfErr result (PagesRefused PageFault.Disk WriteCause 2 (P.store store.old) (P.store store.new)) }
 {
@@ -70,13 +70,13 @@ fn write_split<P: Pages>(
     requires few { items.now.count ≤ 2 }
     requires one_more { from + items.now.count ≤ to + 1 }
     requires full { ROOM < (from + items.now.count + (count_in bytes.now - to)) * item_width widths kind }
-    requires whole { AreWhole widths kind items.now.count items.now.bytes.items }
+    requires whole { AreItemBytes widths kind items.now.count items.now.bytes.items }
     ensures written { IfOk result (λ tops. AreWritten widths kind page
         (take from (items_in widths kind bytes.now)
         ++ (listed widths kind items.now.count items.now.bytes.items ++ drop to (items_in widths kind bytes.now)))
         (listed widths Inner tops.count tops.bytes.items) (P.store store.old) (P.store store.new)) }
     ensures two { IfOk result (λ tops. tops.count ≡ 2) }
-    ensures whole { IfOk result (λ tops. AreWhole widths Inner tops.count tops.bytes.items) }
+    ensures whole { IfOk result (λ tops. AreItemBytes widths Inner tops.count tops.bytes.items) }
     ensures ok { OnOk result (PagesWritten 2 (P.store store.old) (P.store store.new)) }
     ensures err { IfErr result (PagesRefused PageFault.Disk WriteCause 2 (P.store store.old) (P.store store.new)) }
 {
@@ -104,7 +104,7 @@ pub fn write_spliced<P: Pages>(
     requires few { items.now.count ≤ 2 }
     requires one_more { from + items.now.count ≤ to + 1 }
     requires enough { least_of kind ≤ from + items.now.count + (count_in bytes.old - to) }
-    requires whole { AreWhole widths kind items.now.count items.now.bytes.items }
+    requires whole { AreItemBytes widths kind items.now.count items.now.bytes.items }
     ensures written { IfOk result (λ tops. AreWritten widths kind page
         (take from (items_in widths kind bytes.old)
         ++ (listed widths kind items.now.count items.now.bytes.items ++ drop to (items_in widths kind bytes.old)))
@@ -142,7 +142,7 @@ pub fn write_led<P: Pages>(
     requires within { place < count_in bytes.old }
     requires some { 1 ≤ items.now.count }
     requires few { items.now.count ≤ 2 }
-    requires whole { AreWhole widths Inner items.now.count items.now.bytes.items }
+    requires whole { AreItemBytes widths Inner items.now.count items.now.bytes.items }
     ensures written { IfOk result (λ tops. reads (P.store store.old) page ≡ bytes.old → AreWritten widths Inner page
         (take place (items_in widths Inner bytes.old)
         ++ (listed widths Inner items.now.count items.now.bytes.items ++ drop (place + 1) (items_in widths Inner bytes.old)))

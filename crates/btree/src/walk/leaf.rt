@@ -3,7 +3,7 @@ ghost use Rattle.std.specs.Prelude.{◌≡◌, ◌≤◌, ◌↔◌, ◌∷◌, 
 ghost use Rattle.btree.specs.declared.page.kind.Kind.TheVariants.{Leaf};
 ghost use Rattle.btree.specs.Page.{items_in, IsPage};
 ghost use Rattle.btree.specs.Entries.{first_key as first_key_of};
-ghost use Rattle.btree.specs.lemmas.Visits.{IsTold, TellCause};
+ghost use Rattle.btree.specs.lemmas.Visits.{HasVisited, TellCause};
 
 use crate::find::{Bytes, copied};
 use crate::page::{Kind, Widths, count_of, item_at};
@@ -20,7 +20,7 @@ pub fn tell_leaf<V: Visitor>(
     visitor: &mut V,
 ) -> Result<(), WalkFault>
     requires { IsPage widths Leaf leaf.now }
-    ensures told { OnOk result (IsTold (items_in widths Leaf leaf.now) last.old.items last.new.items (V.told visitor.old)
+    ensures told { OnOk result (HasVisited (items_in widths Leaf leaf.now) last.old.items last.new.items (V.told visitor.old)
         (V.told visitor.new)) }
     ensures cause { IfErr result (TellCause (items_in widths Leaf leaf.now) last.old.items (V.refuses visitor.new) (V.told visitor.old)) }
 {
@@ -39,7 +39,7 @@ fn tell<V: Visitor>(
     visitor: &mut V,
 ) -> Result<(), WalkFault>
     requires { length key.now ≤ 256 }
-    ensures told { OnOk result (IsTold ((key.now, value.now) ∷ []) last.old.items last.new.items (V.told visitor.old)
+    ensures told { OnOk result (HasVisited ((key.now, value.now) ∷ []) last.old.items last.new.items (V.told visitor.old)
         (V.told visitor.new)) }
     ensures cause { IfErr result (TellCause ((key.now, value.now) ∷ []) last.old.items (V.refuses visitor.new) (V.told visitor.old)) }
 {

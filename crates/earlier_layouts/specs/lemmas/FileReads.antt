@@ -18,14 +18,14 @@ use Rattle.earlier_layouts.specs.Held.{KeepsTable}
 use Rattle.game_file.specs.Kept.{Kept}
 
 -- the parts of the table fit together, and there is of each as much as the sizes say
-pub record IsWhole (sizes : Sizes) (stored : Stored (List ℕ)) : Type 0 where
+pub record IsSizedTable (sizes : Sizes) (stored : Stored (List ℕ)) : Type 0 where
   pub fits : FitsTogether sizes.packed stored
   pub counts : counts_of stored ≡ sizes.counts
 
 -- the bytes spell this table after the text, and it is whole
 pub record IsTableOf (sizes : Sizes) (bytes : List ℕ) (stored : Stored (List ℕ)) : Type 0 where
   pub spelled : SpellsTable sizes bytes (take sizes.text bytes) stored
-  pub whole : IsWhole sizes stored
+  pub whole : IsSizedTable sizes stored
 
 -- the game has this packing, and is what a chain of these pages with this content spells
 pub record IsGameIn (kind : PackingKind) (sizes : Sizes) (pages content : List ℕ) (game : Game) : Type 0 where
@@ -43,7 +43,7 @@ SpellingCause sizes bytes OutOfMemory = Unit {0}
 SpellingCause sizes bytes _ = ⊥
 
 -- from pages that waited and are marked now this was read; none is marked where there is no table
-pub record IsRead (pages : List ℕ) (kept : Option Kept) (old new : Store) : Type 0 where
+pub record IsReadFromPages (pages : List ℕ) (kept : Option Kept) (old new : Store) : Type 0 where
   pub waited : (p : ℕ) → Contains pages p → mark old.marks p ≡ Waiting
   pub marked : (p : ℕ) → Contains pages p → mark new.marks p ≡ Committed
   pub none : kept ≡ None → new.marks ≡ old.marks

@@ -49,7 +49,7 @@ pub record IsCopied (slot : TreeSlot) (begun : Store) (game : Game) (now : Store
   pub text : slot.sizes.text ≡ length game.text.items
   pub sized : IsSizedSlot slot
 
--- what a fault in copying a table is told as
+-- the fault of a file for a fault in copying its table
 abbrev pub of_copy : CopyFault → FileFault
 of_copy (From fault) = of_table fault
 of_copy (To fault) = of_table fault

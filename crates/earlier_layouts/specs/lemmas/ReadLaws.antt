@@ -1,7 +1,7 @@
 -- What holds of all that a file keeps, for readers in src/laws.rt and for proofs here.
 use Rattle.std.specs.Prelude.{◌≡◌, ℕ, List, Option, None, Some}
 use Rattle.std.proofs.Common.{refl, sym, ◌∙◌, subst, arith}
-use Rattle.sector_disk.specs.Disk.{Picture}
+use Rattle.sector_disk.specs.Disk.{Image}
 use Rattle.page_store.specs.Page.{page}
 use Rattle.page_chain.specs.lemmas.EveryChain.{a_chain_has_one_content}
 use Rattle.earlier_layouts.specs.Spelled.{SpellsTable}
@@ -31,12 +31,12 @@ a_root_keeps_one_table root capacity (Some k) (Some l) bytes a b =
     let goals : k.goal ≡ l.goal = a.no_goal ∙ sym b.no_goal in
     λ i. Some (record { text = texts i; packing = packings i; goal = goals i; table = tables i })
 
--- a picture of the disk stores one table at most, in whatever number of pages
-pub a_picture_stores_one_table : (m n : ℕ) (picture : Picture) (one other : Option Kept) → Stores m picture one → Stores n picture other
+-- an image of the disk stores one table at most, in whatever number of pages
+pub an_image_stores_one_table : (m n : ℕ) (image : Image) (one other : Option Kept) → Stores m image one → Stores n image other
     → one ≡ other
-a_picture_stores_one_table m n picture one other a b =
+an_image_stores_one_table m n image one other a b =
     let same : b.root ≡ a.root = sym b.holds.is ∙ a.holds.is in
-    a_root_keeps_one_table a.root (capacity_of picture) one other (page picture)
-    (keeps_in_more a.root m (capacity_of picture) one (page picture) a.room a.keeps)
-    (subst (λ (root : List ℕ). KeepsTable root (capacity_of picture) other (page picture)) same
-    (keeps_in_more b.root n (capacity_of picture) other (page picture) b.room b.keeps))
+    a_root_keeps_one_table a.root (capacity_of image) one other (page image)
+    (keeps_in_more a.root m (capacity_of image) one (page image) a.room a.keeps)
+    (subst (λ (root : List ℕ). KeepsTable root (capacity_of image) other (page image)) same
+    (keeps_in_more b.root n (capacity_of image) other (page image) b.room b.keeps))

@@ -2,7 +2,7 @@
 use Rattle.std.specs.Prelude.{◌≡◌, ℕ, ◌*◌, ◌^◌, ◌≤◌, false, List, length, Option, None, Some, Contains, IsTrue}
 use Rattle.std.proofs.Common.{arith}
 use Rattle.std.proofs.Math.Nat.{le-min, le-div_iff_mul-le}
-use Rattle.sector_disk.specs.Disk.{Picture}
+use Rattle.sector_disk.specs.Disk.{Image}
 use Rattle.page_store.specs.lemmas.Carried.{stop_leaves}
 use Rattle.page_store.specs.Spelled.{SpelledBy, Spells}
 use Rattle.page_store.specs.Store.{StopLeaves}
@@ -61,19 +61,19 @@ keeps_in_more root fewer more (Some kept) bytes le it = record {
   counts = it.counts;
 }
 
--- this many pages are within what a picture with room for them has
-within_capacity : (picture : Picture) (c : ℕ) → 8 * c ≤ length picture → c ≤ 1048576 → c ≤ capacity_of picture
-within_capacity picture c room few = le-min ((le-div_iff_mul-le (omega arith)).1 (omega (arith, room))) few
+-- this many pages are within what an image with room for them has
+within_capacity : (image : Image) (c : ℕ) → 8 * c ≤ length image → c ≤ 1048576 → c ≤ capacity_of image
+within_capacity image c room few = le-min ((le-div_iff_mul-le (omega arith)).1 (omega (arith, room))) few
 
--- a picture with this root whose pages spell this stores it in this many
-pub spells_stores : (root : List ℕ) (c : ℕ) (kept : Option Kept) (picture : Picture) → 16 ≤ c → c ≤ 1048576
-    → Spells root c (KeepsTable root c kept) picture → Stores c picture kept
-spells_stores root c kept picture enough few it =
-    record { root = root; holds = it.holds; least = enough; room = within_capacity picture c it.room few; keeps = it.spelt }
+-- an image with this root whose pages spell this stores it in this many
+pub spells_stores : (root : List ℕ) (c : ℕ) (kept : Option Kept) (image : Image) → 16 ≤ c → c ≤ 1048576
+    → Spells root c (KeepsTable root c kept) image → Stores c image kept
+spells_stores root c kept image enough few it =
+    record { root = root; holds = it.holds; least = enough; room = within_capacity image c it.room few; keeps = it.spelt }
 
 -- between commands a stop leaves what is kept
 pub a_file_is_kept : (file : FlatFile) → IsFile file → IsTrue file.store.disk.honest → file.store.closed ≡ false
-    → StopLeaves file.store (λ picture. Stores (length file.store.marks) picture (kept_of file.game))
-a_file_is_kept file it honest is_open picture left =
-    spells_stores file.store.root (length file.store.marks) (kept_of file.game) picture it.backed.room it.sound.few
-    (stop_leaves file.store (it.backed.stands honest is_open) (it.sound.safe honest is_open) picture left)
+    → StopLeaves file.store (λ image. Stores (length file.store.marks) image (kept_of file.game))
+a_file_is_kept file it honest is_open image left =
+    spells_stores file.store.root (length file.store.marks) (kept_of file.game) image it.backed.room it.sound.few
+    (stop_leaves file.store (it.backed.stands honest is_open) (it.sound.safe honest is_open) image left)

@@ -24,7 +24,7 @@ whole_asked file whole = record {
   goal = refl;
   kept = λ honest. refl;
   closed = refl;
-  leaves = λ honest. leaves_now file.store.disk (λ picture left. left);
+  leaves = λ honest. leaves_now file.store.disk (λ image left. left);
   since = λ honest is_open. leaves_now file.store.disk (a_file_is_kept file whole honest is_open);
   now = λ honest is_open. a_file_is_kept file whole honest is_open;
 }

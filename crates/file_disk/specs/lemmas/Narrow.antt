@@ -4,38 +4,38 @@ use Rattle.std.specs.Prelude.{List, [], ◌∷◌, ◌++◌, length, take, drop,
 use Rattle.std.proofs.Common.{refl, sym, ◌∙◌, ap, subst, inl, inr, arith, length-append}
 use Rattle.std.proofs.lemmas.Bool.{cases_lt, lt-ltb, le-ltb}
 use Rattle.std.proofs.lemmas.List.{take_all, drop_all, get_or_past, get_or_push, get_or_append_left}
-use Rattle.sector_disk.specs.Disk.{Picture, sector, Shown, IsNoMore, MayLeave}
+use Rattle.sector_disk.specs.Disk.{Image, sector, Shown, IsNoMore, MayLeave}
 use Rattle.file_disk.specs.Bytes.{sector_of}
-use Rattle.file_disk.specs.Buffers.{Buffers, Ends, waits, is_missing, is_calm, buffered_now}
+use Rattle.file_disk.specs.Buffers.{Buffers, HasNoRoomBehind, waits, is_missing, is_calm, buffered_now}
 use Rattle.file_disk.specs.Events.{Happened, had_first}
-use Rattle.file_disk.specs.Past.{pictured, Standing, found, stands_after, stands, file_shown, shown_then}
+use Rattle.file_disk.specs.Past.{image_of, Standing, found, stands_after, stands, file_shown, shown_then}
 use Rattle.file_disk.specs.Shown.{shown}
 use Rattle.file_disk.specs.WaitingSectors.{slot_of, given}
 
 -- this many sectors
-pub length-pictured : (bytes : ℕ → List ℕ) (sectors : ℕ) → length (pictured bytes sectors) ≡ sectors
-unfolding pictured
-length-pictured bytes zero = refl
-length-pictured bytes (suc n) =
-    length-append (pictured bytes n) (bytes n ∷ []) ∙ omega (arith, length-pictured bytes n)
+pub length-image_of : (bytes : ℕ → List ℕ) (sectors : ℕ) → length (image_of bytes sectors) ≡ sectors
+unfolding image_of
+length-image_of bytes zero = refl
+length-image_of bytes (suc n) =
+    length-append (image_of bytes n) (bytes n ∷ []) ∙ omega (arith, length-image_of bytes n)
 
 -- each with its bytes
-pub sector-pictured : (bytes : ℕ → List ℕ) (sectors k : ℕ) → k < sectors → sector (pictured bytes sectors) k ≡ bytes k
-unfolding pictured
-sector-pictured bytes zero k lt = absurd (omega arith)
-sector-pictured bytes (suc n) k lt = elim (cases_lt k n) [
+pub sector-image_of : (bytes : ℕ → List ℕ) (sectors k : ℕ) → k < sectors → sector (image_of bytes sectors) k ≡ bytes k
+unfolding image_of
+sector-image_of bytes zero k lt = absurd (omega arith)
+sector-image_of bytes (suc n) k lt = elim (cases_lt k n) [
   | inl less ↦
-      get_or_append_left (pictured bytes n) (bytes n ∷ []) [] k (omega (arith, less, length-pictured bytes n))
-      ∙ sector-pictured bytes n k less
+      get_or_append_left (image_of bytes n) (bytes n ∷ []) [] k (omega (arith, less, length-image_of bytes n))
+      ∙ sector-image_of bytes n k less
   | inr most ↦
       let same : n ≡ k = omega arith in
-      get_or_push (pictured bytes n) (bytes n) [] k (length-pictured bytes n ∙ same) ∙ ap bytes same
+      get_or_push (image_of bytes n) (bytes n) [] k (length-image_of bytes n ∙ same) ∙ ap bytes same
 ]
 
 -- and no others
-pub past-pictured : (bytes : ℕ → List ℕ) (sectors k : ℕ) → sectors ≤ k → sector (pictured bytes sectors) k ≡ []
-past-pictured bytes sectors k le =
-    get_or_past (pictured bytes sectors) k [] (omega (arith, length-pictured bytes sectors))
+pub past-image_of : (bytes : ℕ → List ℕ) (sectors k : ℕ) → sectors ≤ k → sector (image_of bytes sectors) k ≡ []
+past-image_of bytes sectors k le =
+    get_or_past (image_of bytes sectors) k [] (omega (arith, length-image_of bytes sectors))
 
 pub if_not : (b : Bool) {c : Bool} → (if b then false else c) ≡ true → (b ≡ false) × (c ≡ true)
 if_not true is = absurd (cc)
@@ -74,27 +74,27 @@ pub narrow : (b : Buffers) (bytes : List ℕ) (standing : Standing) → length b
     → ((k : ℕ) → k < b.sectors → IsTrue (is_calm b k) → IsTrue (standing.synced k) × (512 * (k + 1) ≤ length bytes)
     × (sector_of bytes k ≡ sector_of b.content k))
     → IsNoMore (file_shown bytes standing) (buffered_now b)
-narrow b bytes standing ends lasts each picture left = record {
+narrow b bytes standing ends lasts each image left = record {
   no_shorter = omega (arith, lasts, left.no_shorter);
-  no_longer = omega (arith, long, left.no_longer, length-pictured (shown b.waiting b.content) b.sectors);
+  no_longer = omega (arith, long, left.no_longer, length-image_of (shown b.waiting b.content) b.sectors);
   same = λ k calm. same k calm (cases_lt k b.sectors);
 }
   where
-    long : length (pictured (sector_of bytes) (length bytes / 512)) ≤ b.sectors
-    long = omega (arith, length-pictured (sector_of bytes) (length bytes / 512), ends)
+    long : length (image_of (sector_of bytes) (length bytes / 512)) ≤ b.sectors
+    long = omega (arith, length-image_of (sector_of bytes) (length bytes / 512), ends)
 
     same : (k : ℕ) → IsTrue (is_calm b k) → (k < b.sectors) ⊎ (b.sectors ≤ k)
-        → sector picture k ≡ sector (pictured (shown b.waiting b.content) b.sectors) k
+        → sector image k ≡ sector (image_of (shown b.waiting b.content) b.sectors) k
     same k calm (inl lt) =
         let its = each k lt calm in
         left.same k its.0
-        ∙ sector-pictured (sector_of bytes) (length bytes / 512) k (omega (arith, its.1))
+        ∙ sector-image_of (sector_of bytes) (length bytes / 512) k (omega (arith, its.1))
         ∙ its.2
         ∙ sym (unwaited b b.content k (calm_is b k calm).0)
-        ∙ sym (sector-pictured (shown b.waiting b.content) b.sectors k lt)
+        ∙ sym (sector-image_of (shown b.waiting b.content) b.sectors k lt)
     same k calm (inr le) =
-        get_or_past picture k [] (omega (arith, left.no_longer, long, le))
-        ∙ sym (past-pictured (shown b.waiting b.content) b.sectors k le)
+        get_or_past image k [] (omega (arith, left.no_longer, long, le))
+        ∙ sym (past-image_of (shown b.waiting b.content) b.sectors k le)
 
 -- at the last moment the file shows what it has now
 last_shown : (happened : List Happened) (now : List ℕ) → shown_then happened now (length happened) ≡ file_shown now (stands happened now)
@@ -103,8 +103,8 @@ last_shown happened now = λ i.
     (stands_after (found (had_first happened now)) (take_all (length happened) happened (omega arith) i))
 
 -- so what a stop at the last moment leaves of the file a stop now may leave of the buffers
-pub now_allowed : (b : Buffers) → Ends b → IsNoMore (shown_then b.happened b.content (length b.happened)) (buffered_now b)
-now_allowed b ends picture left =
+pub now_allowed : (b : Buffers) → HasNoRoomBehind b → IsNoMore (shown_then b.happened b.content (length b.happened)) (buffered_now b)
+now_allowed b ends image left =
     narrow b b.content (stands b.happened b.content) ends (omega arith)
     (λ k lt calm. let is = calm_is b k calm in (is.2, is.1 lt, refl))
-    picture (subst (λ (s : Shown). MayLeave s picture) (last_shown b.happened b.content) left)
+    image (subst (λ (s : Shown). MayLeave s image) (last_shown b.happened b.content) left)

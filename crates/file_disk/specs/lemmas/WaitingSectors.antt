@@ -9,8 +9,8 @@ abbrev pub AreDistinct : List WaitingPage → ℕ → Type 0
 AreDistinct pages count = (p q : ℕ) → p < count → q < count → (page_at pages p).number ≡ (page_at pages q).number → p ≡ q
 
 -- for the remainder of the number of each of this many pages something is noted
-abbrev pub AreNoted : List WaitingPage → ℕ → List ℕ → Type 0
-AreNoted pages count hints = (p : ℕ) → p < count → slice_index hints ((page_at pages p).number % 4096) ≢ 0
+abbrev pub AreHinted : List WaitingPage → ℕ → List ℕ → Type 0
+AreHinted pages count hints = (p : ℕ) → p < count → slice_index hints ((page_at pages p).number % 4096) ≢ 0
 
 -- each of this many pages begins below 2 ^ 64
 abbrev pub ArePlaced : List WaitingPage → ℕ → Type 0

@@ -26,5 +26,5 @@ asked_not_grown Stores pages old new asked = record {
   kept = asked.kept;
   capacity = asked.ahead.capacity;
   leaves = λ honest is_open. asked.since honest (sym asked.closed ∙ is_open);
-  either = λ honest is_open. leaves_more (λ picture left. inl left) (asked.since honest is_open);
+  either = λ honest is_open. leaves_more (λ image left. inl left) (asked.since honest is_open);
 }

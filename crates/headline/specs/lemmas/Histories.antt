@@ -1,12 +1,12 @@
 -- A history in brief is one of the calls' contracts, so the headline in brief follows from the headline.
 use Rattle.std.specs.Prelude.{◌≡◌, ◌⊎◌, ℕ, zero, suc, true, false, List, [], ◌∷◌, ◌++◌, map, Contains, Option, None, Some, IsTrue}
 use Rattle.std.proofs.Common.{refl, sym, subst, ap, inl, inr, arith}
-use Rattle.sector_disk.specs.Disk.{Picture, Shown, Disk, GoesOn, MayLeave, StopsIn}
+use Rattle.sector_disk.specs.Disk.{Image, Shown, Disk, GoesOn, MayLeave, StopsIn}
 use Rattle.sector_disk.specs.lemmas.Moments.{still_honest}
 use Rattle.game_file.specs.Kept.{Kept, Layout}
 use Rattle.game_file.specs.State.{State}
 use Rattle.game_file.specs.Calls.{IsAsked, IsNotOpened}
-use Rattle.root_pair.specs.Root.{IsTablePicture}
+use Rattle.root_pair.specs.Root.{IsTableImage}
 use Rattle.solver.specs.declared.fault.SolverFault.{SolverFault}
 use Rattle.solver.specs.declared.fault.SolverFault.TheVariants.{Disk as DiskFailed, OutOfMemory}
 use Rattle.solver.specs.declared.replies.Reply.{Reply}
@@ -458,12 +458,12 @@ module _ {S : Type 0} (Stores : ℕ → Layout) (state : S → State) (ready : S
   lucky before now fault (inr is) = inr is
 
   -- the headline in brief
-  pub the_headline_in_brief : ((pages : ℕ) (picture : Picture) (kept : Option Kept) → Stores pages picture kept → IsTablePicture picture)
-      → (sittings : List BriefSitting) (left : Shown) (picture : Picture)
-      → BriefHistory calls_of sittings left → MayLeave left picture → BriefHeadline calls_of sittings picture
-  the_headline_in_brief begins sittings left picture history may =
+  pub the_headline_in_brief : ((pages : ℕ) (image : Image) (kept : Option Kept) → Stores pages image kept → IsTableImage image)
+      → (sittings : List BriefSitting) (left : Shown) (image : Image)
+      → BriefHistory calls_of sittings left → MayLeave left image → BriefHeadline calls_of sittings image
+  the_headline_in_brief begins sittings left image history may =
       let it = history_is history in
-      let (kept, leads, reopens, exact) = the_headline Stores begins it.whole left picture it.history may in
+      let (kept, leads, reopens, exact) = the_headline Stores begins it.whole left image it.history may in
       let (table, told, makes) = leads_told it.whole sittings None kept None it.same leads (tt, refl) in
       record {
         table = table;

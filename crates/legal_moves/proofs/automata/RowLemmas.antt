@@ -8,10 +8,10 @@ use Rattle.rbg_game.specs.Games.{Game, neighbour}
 use Rattle.rbg_game.specs.Sound.{IsSoundGame}
 use Rattle.legal_moves.specs.Glushkov.{IsNextAt, IsLast}
 use Rattle.legal_moves.specs.Jumps.{label_in, IsShiftTo, Shifts, still, further, IsAmong, IsRow}
-use Rattle.legal_moves.specs.lemmas.Walks.{IsKept, IsLed, IsNoted, IsGoneOn, IsWhole, AreInside, IsMetWith}
+use Rattle.legal_moves.specs.lemmas.Walks.{KeepsClosure, IsLed, HasNoted, IsGoneOn, IsClosure, StaysOnBoard, IsMetWith}
 use Rattle.legal_moves.specs.declared.automaton.jumps.Jump.{Jump}
-use Rattle.legal_moves.specs.declared.automaton.jumps.Row.{Row}
-use Rattle.legal_moves.specs.declared.automaton.jumps.Walk.{Walk}
+use Rattle.legal_moves.specs.declared.automaton.jumps.JumpRow.{JumpRow}
+use Rattle.legal_moves.specs.declared.automaton.jumps.ShiftClosure.{ShiftClosure}
 use Rattle.legal_moves.proofs.GetLemmas.{slice_get-append, slice_get-push, slice_get-end, slice_get-within}
 use Rattle.legal_moves.proofs.searches.HoldsLemmas.{list_any-found}
 use Rattle.legal_moves.proofs.automata.StepLemmas.{neighbour_within}
@@ -22,10 +22,10 @@ on_ok_all (Err e) f p q s = tt
 
 -- ---- nothing is forgotten
 
-pub kept_same : (walk : Walk) → IsKept walk walk
+pub kept_same : (walk : ShiftClosure) → KeepsClosure walk walk
 kept_same walk = record { met = λ i j at. at; to = λ i j at. at; ends = λ is. is }
 
-pub kept_then : (a b c : Walk) → IsKept a b → IsKept b c → IsKept a c
+pub kept_then : (a b c : ShiftClosure) → KeepsClosure a b → KeepsClosure b c → KeepsClosure a c
 kept_then a b c h k = record {
   met = λ i j at. k.met i j (h.met i j at);
   to = λ i j at. k.to i j (h.to i j at);
@@ -49,24 +49,24 @@ among_by_any js r u any =
     two false b is = absurd (cc)
 
 module _ (game : Game) (e : Regex) where
-  pub noted_kept : (old new : Walk) → IsKept old new → (u r : ℕ) → IsNoted game e old u r → IsNoted game e new u r
+  pub noted_kept : (old new : ShiftClosure) → KeepsClosure old new → (u r : ℕ) → HasNoted game e old u r → HasNoted game e new u r
   noted_kept old new k u r h = record {
     other = λ none. among_kept old.to.items new.to.items k.to r u (h.other none);
     met = λ w s. among_kept old.met.items new.met.items k.met r w (h.met w s);
     ends = λ w s last. k.ends (h.ends w s last);
   }
 
-  pub gone_kept : (old new : Walk) → IsKept old new → (at : ℕ) → at < length old.met.items → IsGoneOn game e old at → IsGoneOn game e new at
+  pub gone_kept : (old new : ShiftClosure) → KeepsClosure old new → (at : ℕ) → at < length old.met.items → IsGoneOn game e old at → IsGoneOn game e new at
   gone_kept old new k at inside gone j r at_j next =
       let there = slice_get-get_or old.met.items at j inside in
       let here = k.met at (get_or old.met.items at j) there in
       let both : Some (get_or old.met.items at j) ≡ Some j = sym here ∙ at_j in
       let same : get_or old.met.items at j ≡ j = cc in
       noted_kept old new k j.vertex r
-      (subst (λ x. IsNoted game e old x.vertex r) same (gone (get_or old.met.items at j) r there (subst (λ x. IsNextAt e x.number r) (sym same) next)))
+      (subst (λ x. HasNoted game e old x.vertex r) same (gone (get_or old.met.items at j) r there (subst (λ x. IsNextAt e x.number r) (sym same) next)))
 
   -- where a walk begins
-  module _ (start : Jump) (walk : Walk) (met : walk.met.items ≡ start ∷ []) where
+  module _ (start : Jump) (walk : ShiftClosure) (met : walk.met.items ≡ start ∷ []) where
     pub first_begun : slice_get walk.met.items 0 ≡ Some start
     first_begun = ap (λ xs. slice_get xs 0) met
 
@@ -89,16 +89,16 @@ module _ (game : Game) (e : Regex) where
   no_shift : (r u w : ℕ) → label_in (action_at e 1 r) ≡ None → IsShiftTo game e r u w → ⊥
   no_shift r u w none s = let both : None ≡ Some s.0 = sym none ∙ s.1 in cc
 
-  module _ (old new : Walk) (u r : ℕ) (more : new.to.items ≡ old.to.items ++ record { number = r; vertex = u } ∷ [])
+  module _ (old new : ShiftClosure) (u r : ℕ) (more : new.to.items ≡ old.to.items ++ record { number = r; vertex = u } ∷ [])
       (met : new.met.items ≡ old.met.items) (ends : new.ends ≡ old.ends) where
-    pub kept_other : IsKept old new
+    pub kept_other : KeepsClosure old new
     kept_other = record {
       met = λ i j at. subst (λ xs. slice_get xs i ≡ Some j) (sym met) at;
       to = λ i j at. subst (λ xs. slice_get xs i ≡ Some j) (sym more) (slice_get-append old.to.items _ i j at);
       ends = λ is. ends ∙ is;
     }
 
-    pub noted_other : label_in (action_at e 1 r) ≡ None → IsNoted game e new u r
+    pub noted_other : label_in (action_at e 1 r) ≡ None → HasNoted game e new u r
     noted_other none = record {
       other = λ _. subst (λ xs. IsAmong xs r u) (sym more) (among_end old.to.items r u);
       met = λ w s. absurd (no_shift r u w none s);
@@ -139,9 +139,9 @@ module _ (game : Game) (e : Regex) where
   or_right true b h = refl
   or_right false b h = h
 
-  module _ (old new : Walk) (u r w : ℕ) (b : Bool) (met : IsMetWith old.met.items r w new.met.items) (to : new.to.items ≡ old.to.items)
+  module _ (old new : ShiftClosure) (u r w : ℕ) (b : Bool) (met : IsMetWith old.met.items r w new.met.items) (to : new.to.items ≡ old.to.items)
       (ends : new.ends ≡ (old.ends || b)) where
-    pub kept_shift : IsKept old new
+    pub kept_shift : KeepsClosure old new
     kept_shift = record {
       met = λ i j at. go met i j at;
       to = λ i j at. subst (λ xs. slice_get xs i ≡ Some j) (sym to) at;
@@ -159,7 +159,7 @@ module _ (game : Game) (e : Regex) where
         go (inl h) = subst (λ xs. IsAmong xs r w) (sym h.0) h.1
         go (inr h) = subst (λ xs. IsAmong xs r w) (sym h) (among_end old.met.items r w)
 
-    pub noted_shift : IsShiftTo game e r u w → (IsLast e 1 r → b ≡ true) → IsNoted game e new u r
+    pub noted_shift : IsShiftTo game e r u w → (IsLast e 1 r → b ≡ true) → HasNoted game e new u r
     noted_shift s last = record {
       other = λ none. absurd (no_shift r u w none s);
       met = λ x t. subst (IsAmong new.met.items r) (shift_to_one r u w x s t) met_now;
@@ -188,7 +188,7 @@ module _ (game : Game) (e : Regex) where
         end (inr is) = (q, u, r, w, shifts, next, s, last is)
 
   -- a shift that leads nowhere
-  pub noted_nowhere : (walk : Walk) (u r label : ℕ) → label_in (action_at e 1 r) ≡ Some label → neighbour game u label ≡ None → IsNoted game e walk u r
+  pub noted_nowhere : (walk : ShiftClosure) (u r label : ℕ) → label_in (action_at e 1 r) ≡ Some label → neighbour game u label ≡ None → HasNoted game e walk u r
   noted_nowhere walk u r label is none = record {
     other = λ other. absurd (let both : None ≡ Some label = sym other ∙ is in cc);
     met = λ w s. absurd (never w s);
@@ -208,22 +208,22 @@ module _ (game : Game) (e : Regex) where
   shifts_inside sound p v _ _ inside still = inside
   shifts_inside sound p v _ _ inside (further q u r w shifts next s) = neighbour_within game u s.0 w sound s.2
 
-  pub led_inside : IsSoundGame game → (p v : ℕ) → v < length game.vertices → (walk : Walk) → IsLed game e p v walk → AreInside game walk
+  pub led_inside : IsSoundGame game → (p v : ℕ) → v < length game.vertices → (walk : ShiftClosure) → IsLed game e p v walk → StaysOnBoard game walk
   led_inside sound p v inside walk led i j at = shifts_inside sound p v j.number j.vertex inside (led.met i j at)
 
   -- ---- a whole walk is a row
 
-  module _ (p v : ℕ) (walk : Walk) (whole : IsWhole game e p v walk) where
-    noted_at : (q u r : ℕ) → IsAmong walk.met.items q u → IsNextAt e q r → IsNoted game e walk u r
+  module _ (p v : ℕ) (walk : ShiftClosure) (whole : IsClosure game e p v walk) where
+    noted_at : (q u r : ℕ) → IsAmong walk.met.items q u → IsNextAt e q r → HasNoted game e walk u r
     noted_at q u r m next =
-        subst (λ x. IsNoted game e walk x r) m.4
+        subst (λ x. HasNoted game e walk x r) m.4
         (whole.gone m.0 (slice_get-within walk.met.items m.0 m.1 m.2) m.1 r m.2 (subst (λ x. IsNextAt e x r) (sym m.3) next))
 
     reached : (q u : ℕ) → Shifts game e p v q u → IsAmong walk.met.items q u
     reached _ _ still = whole.first
     reached _ _ (further q u r w shifts next s) = (noted_at q u r (reached q u shifts) next).met w s
 
-    pub row_by_walk : (row : Row) → row.to.items ≡ walk.to.items → row.ends ≡ walk.ends → length walk.met.items ≤ row.met → IsRow game e p v row
+    pub row_by_walk : (row : JumpRow) → row.to.items ≡ walk.to.items → row.ends ≡ walk.ends → length walk.met.items ≤ row.met → IsRow game e p v row
     row_by_walk row to ends many = record {
       only = λ r u m. only r u (subst (λ xs. IsAmong xs r u) to m);
       all = λ q u r shifts next none. subst (λ xs. IsAmong xs r u) (sym to) ((noted_at q u r (reached q u shifts) next).other none);

@@ -8,7 +8,7 @@ use Rattle.legal_moves.specs.Tables.{inner_of, AreSame}
 use Rattle.legal_moves.specs.lemmas.Configurations.{expression_at}
 use Rattle.legal_moves.specs.lemmas.Progress.{began, state_at}
 use Rattle.legal_moves.specs.lemmas.Answers.{IsAnswerAt}
-use Rattle.legal_moves.specs.declared.search.answers.Answer.{Answer}
+use Rattle.legal_moves.specs.declared.search.answers.LastPattern.{LastPattern}
 use Rattle.legal_moves.proofs.GetLemmas.{slice_get-append, slice_get-within}
 
 -- the expression that a number names is the one at its place
@@ -23,7 +23,7 @@ same_expression game same i j h at =
     ∙ sym (slice_get-append es (game.rules ∷ []) i (get_or es i empty) at_i))
 
 -- the configuration at the index stays, and so does the answer
-pub answer_along : (game : Game) (cs ds : List Configuration) (at : ℕ) (known : Option Answer) → slice_get cs at ≡ slice_get ds at
+pub answer_along : (game : Game) (cs ds : List Configuration) (at : ℕ) (known : Option LastPattern) → slice_get cs at ≡ slice_get ds at
     → IsAnswerAt game (state_at cs at) known → IsAnswerAt game (state_at ds at) known
 answer_along game cs ds at known same =
     subst (λ S. IsAnswerAt game S known) (ap (λ o. unwrap_or (option_map (λ c. c.at.state) o) (began [])) same)

@@ -8,7 +8,7 @@ use Rattle.legal_moves.specs.Effects.{EffectAt}
 use Rattle.legal_moves.specs.lemmas.Boards.{at_turn, board_at, boards_in}
 use Rattle.legal_moves.specs.lemmas.Configurations.{opening, OccurrenceLeads}
 use Rattle.legal_moves.specs.lemmas.Progress.{began, state_at, IsGoing, IsTaken, IsTriedFrom, IsTried, IsFullFrom}
-use Rattle.legal_moves.specs.lemmas.Stands.{stood, configurations_of, AreKept, IsNewStand, IsShown, IsStandAdded}
+use Rattle.legal_moves.specs.lemmas.Stands.{stood, configurations_of, AreKept, IsNewStand, ShowsOne, IsStandAdded}
 use Rattle.legal_moves.specs.lemmas.VertexSearch.{at_vertex}
 use Rattle.legal_moves.specs.Configurations.{Configuration}
 use Rattle.legal_moves.specs.declared.search.found.Stand.{Stand}
@@ -80,17 +80,17 @@ later cs c i inside =
     let there = slice_get-there cs i inside in
     state_of (cs ++ c ∷ []) i there.0 (slice_get-append cs (c ∷ []) i there.0 there.1) ∙ sym (state_of cs i there.0 there.1)
 
-module _ (old new : Found) (shown : Shown) (is : IsShown old shown) where
+module _ (old new : Found) (shown : Shown) (is : ShowsOne old shown) where
   counted : (found : Found) → length (configurations_of found) ≡ length found.stands.items
   counted found = length-map found.stands.items (stood (boards_in found.boards))
 
-  same_shown : configurations_of new ≡ configurations_of old → IsShown new shown
+  same_shown : configurations_of new ≡ configurations_of old → ShowsOne new shown
   same_shown same = record {
     at_one = omega (arith, is.at_one, ap length same, counted old, counted new);
     state_is = is.state_is ∙ ap (λ cs. state_at cs shown.at) (sym same);
   }
 
-  longer_shown : (c : Configuration) → configurations_of new ≡ configurations_of old ++ c ∷ [] → IsShown new shown
+  longer_shown : (c : Configuration) → configurations_of new ≡ configurations_of old ++ c ∷ [] → ShowsOne new shown
   longer_shown c more = record {
     at_one = omega (arith, is.at_one, ap length more, length-append (configurations_of old) (c ∷ []), counted old, counted new);
     state_is =
@@ -98,10 +98,10 @@ module _ (old new : Found) (shown : Shown) (is : IsShown old shown) where
         ∙ ap (λ cs. state_at cs shown.at) (sym more);
   }
 
-  pub still_shown : (game : Game) (e : Regex) (k at : ℕ) → IsTried game e k at (configurations_of old) (configurations_of new) → IsShown new shown
+  pub still_shown : (game : Game) (e : Regex) (k at : ℕ) → IsTried game e k at (configurations_of old) (configurations_of new) → ShowsOne new shown
   still_shown game e k at (inl g) = same_shown g.0
   still_shown game e k at (inr g) = taken g.3
     where
-      taken : IsTaken (configurations_of old) g.0 (configurations_of new) → IsShown new shown
+      taken : IsTaken (configurations_of old) g.0 (configurations_of new) → ShowsOne new shown
       taken (inl t) = same_shown t.0
       taken (inr t) = longer_shown g.0 t.0

@@ -12,7 +12,7 @@ use Rattle.legal_moves.specs.Jumps.{label_in, IsShiftTo, Shifts, still, further}
 use Rattle.legal_moves.specs.Configurations.{Configuration}
 use Rattle.legal_moves.specs.lemmas.Configurations.{opening, IsSearch}
 use Rattle.legal_moves.specs.lemmas.Hops.{IsHopping, AreStillThere, AreListedFrom, AreCounted, AreListedUpto}
-use Rattle.legal_moves.specs.lemmas.Reached.{IsThere, AreReached}
+use Rattle.legal_moves.specs.lemmas.Reached.{IsAmongFound, AreReached}
 use Rattle.legal_moves.specs.lemmas.VertexSearch.{at_vertex}
 use Rattle.legal_moves.proofs.Distinct.{distinct-le}
 use Rattle.legal_moves.proofs.EffectLemmas.{EffectAt-by_action, action-by_EffectAt}
@@ -142,17 +142,17 @@ module _ (game : Game) (e : Regex) (place : ℕ) (S : SemiState) where
         onward T k U l a.0 (covered w T k searched) plain next a.1 a.2
 
     -- one that ends a move is there itself
-    end_there : (w : List ℕ) (T : SemiState) (k : ℕ) → Searched game e place S w T k → is_switch (action_at e 1 k) ≡ true → IsThere cs T k
+    end_there : (w : List ℕ) (T : SemiState) (k : ℕ) → Searched game e place S w T k → is_switch (action_at e 1 k) ≡ true → IsAmongFound cs T k
     end_there w T k searched ends = go (covered w T k searched)
       where
-        pick : (i : ℕ) (c : Configuration) → slice_get cs i ≡ Some c → (c.at ≡ record { state = T; place = k }) ⊎ IsShifted c T k → IsThere cs T k
+        pick : (i : ℕ) (c : Configuration) → slice_get cs i ≡ Some c → (c.at ≡ record { state = T; place = k }) ⊎ IsShifted c T k → IsAmongFound cs T k
         pick i c at_c (inl same) = (i, c, at_c, same)
         pick i c at_c (inr h) =
             let plain = shift_plain game e k h.2 T.vertex h.5 in
             let never : true ≡ false = sym ends ∙ plain in
             absurd (cc)
 
-        go : IsCovered cs T k → IsThere cs T k
+        go : IsCovered cs T k → IsAmongFound cs T k
         go h = pick h.index h.anchor h.is_at h.way
 
     -- ---- all of it is listed

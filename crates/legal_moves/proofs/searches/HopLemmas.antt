@@ -15,10 +15,10 @@ use Rattle.legal_moves.specs.Configurations.{Configuration}
 use Rattle.legal_moves.specs.lemmas.Configurations.{AsksTooMuch, OccurrenceLeads, opening}
 use Rattle.legal_moves.specs.lemmas.Hops.{IsGoneOver, IsHopped, IsHopping, AreStillThere, AreListedFrom, AreCounted}
 use Rattle.legal_moves.specs.lemmas.Progress.{began, IsTaken, IsTriedFrom}
-use Rattle.legal_moves.specs.lemmas.Reached.{IsMetBy, IsThere}
+use Rattle.legal_moves.specs.lemmas.Reached.{IsMetBy, IsAmongFound}
 use Rattle.legal_moves.specs.lemmas.VertexSearch.{at_vertex}
 use Rattle.legal_moves.specs.declared.automaton.jumps.Jump.{Jump}
-use Rattle.legal_moves.specs.declared.automaton.jumps.Row.{Row}
+use Rattle.legal_moves.specs.declared.automaton.jumps.JumpRow.{JumpRow}
 use Rattle.legal_moves.proofs.EffectLemmas.{EffectAt-by_action, EffectAt-functional}
 use Rattle.legal_moves.proofs.GetLemmas.{slice_get-append, slice_get-push, slice_get-end, slice_get-within}
 use Rattle.legal_moves.proofs.automata.RowLemmas.{shifts_inside}
@@ -43,7 +43,7 @@ pub looked_up_within : (place last n : ℕ) → place ≤ n → last ≤ n → p
 looked_up_within place zero n h k = h
 looked_up_within place (suc last) n h k = k
 
-pub there_still : (cs cs' : List Configuration) → AreStillThere cs cs' → (U : SemiState) (k : ℕ) → IsThere cs U k → IsThere cs' U k
+pub there_still : (cs cs' : List Configuration) → AreStillThere cs cs' → (U : SemiState) (k : ℕ) → IsAmongFound cs U k → IsAmongFound cs' U k
 there_still cs cs' more U k h = (h.0, h.1, more h.0 h.1 h.2, h.3)
 
 module _ (game : Game) (e : Regex) (place : ℕ) (S : SemiState) where
@@ -180,11 +180,11 @@ module _ (game : Game) (e : Regex) (place : ℕ) (S : SemiState) where
 
       module _ (c : Configuration) (leads : OccurrenceLeads game e r (at_vertex b.at.state u) c)
           (narrow : ¬ AsksTooMuch game e r (at_vertex b.at.state u)) where
-        over_by_there : (cs' : List Configuration) → IsThere cs' c.at.state c.at.place → IsGoneOver game e cs' (at_vertex b.at.state u) r
+        over_by_there : (cs' : List Configuration) → IsAmongFound cs' c.at.state c.at.place → IsGoneOver game e cs' (at_vertex b.at.state u) r
         over_by_there cs' there = record {
           met = λ U step.
               let same = EffectAt-functional game e 1 r (at_vertex b.at.state u) c.at.state U leads.step step in
-              subst (λ k. IsThere cs' U k) leads.place_is (subst (λ V. IsThere cs' V c.at.place) same there);
+              subst (λ k. IsAmongFound cs' U k) leads.place_is (subst (λ V. IsAmongFound cs' V c.at.place) same there);
           narrow = narrow;
         }
 
@@ -240,7 +240,7 @@ module _ (game : Game) (e : Regex) (place : ℕ) (S : SemiState) where
   pub hopped_end : (cs : List Configuration) (b : Configuration) → is_switch (action_at e 1 b.at.place) ≡ true → IsHopped game e place cs b
   hopped_end cs b switch plain q u r shifts next none = let never : true ≡ false = sym switch ∙ plain in absurd (cc)
 
-  pub hopped_by_row : (cs : List Configuration) (b : Configuration) (row : Row) → IsRow game e (place_at place b.at.place) b.at.state.vertex row
+  pub hopped_by_row : (cs : List Configuration) (b : Configuration) (row : JumpRow) → IsRow game e (place_at place b.at.place) b.at.state.vertex row
       → ((i : ℕ) (j : Jump) → slice_get row.to.items i ≡ Some j → IsGoneOver game e cs (at_vertex b.at.state j.vertex) j.number) → IsHopped game e place cs b
   hopped_by_row cs b row is done plain q u r shifts next none =
       let m = is.all q u r shifts next none in
@@ -259,7 +259,7 @@ module _ (game : Game) (e : Regex) (place : ℕ) (S : SemiState) where
     },
   )
 
-  pub counted_by_row : (b : Configuration) (row : Row) → IsRow game e (place_at place b.at.place) b.at.state.vertex row
+  pub counted_by_row : (b : Configuration) (row : JumpRow) → IsRow game e (place_at place b.at.place) b.at.state.vertex row
       → is_switch (action_at e 1 b.at.place) ≡ false → AreCounted game e place b row.met
   counted_by_row b row is plain =
       let js : List Jump = is.met_are.0 in

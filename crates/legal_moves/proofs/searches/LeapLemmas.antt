@@ -10,14 +10,14 @@ use Rattle.rbg_game.specs.declared.position.SemiState.{SemiState}
 use Rattle.legal_moves.specs.Effects.{EffectAt}
 use Rattle.legal_moves.specs.Glushkov.{is_nullable, IsNextAt, IsLast}
 use Rattle.legal_moves.specs.Searches.{begun, Reaches, IsWideFrom, many}
-use Rattle.legal_moves.specs.Jumps.{label_in, Shifts, still, further, IsAmong, IsRow, AreRows}
+use Rattle.legal_moves.specs.Jumps.{label_in, Shifts, still, further, IsAmong, IsRow, AreJumpRows}
 use Rattle.legal_moves.specs.lemmas.Searches.{IsLegal}
 use Rattle.legal_moves.specs.lemmas.VertexSearch.{at_vertex, IsNewLook, IsLookAdded}
 use Rattle.legal_moves.specs.lemmas.Leaps.{opened, IsMetAt, IsMetBefore, IsLookAt, AreStill, IsJumped, IsLeapt, IsLeaping}
 use Rattle.legal_moves.specs.lemmas.Narrow.{looks_alone}
 use Rattle.legal_moves.specs.declared.search.looks.Look.{Look}
 use Rattle.legal_moves.specs.declared.automaton.jumps.Jump.{Jump}
-use Rattle.legal_moves.specs.declared.automaton.jumps.Row.{Row}
+use Rattle.legal_moves.specs.declared.automaton.jumps.JumpRow.{JumpRow}
 use Rattle.legal_moves.specs.declared.automaton.jumps.Jumps.{Jumps}
 use Rattle.legal_moves.proofs.EffectLemmas.{action-by_EffectAt}
 use Rattle.legal_moves.proofs.GetLemmas.{slice_get-append, slice_get-push, slice_get-end, slice_get-within}
@@ -35,7 +35,7 @@ in_rows zero (suc m) n v less low = omega (arith, suc-mul m n, low)
 in_rows (suc a) (suc m) n v less low = omega (arith, suc-mul a n, suc-mul m n, in_rows a m n v (omega (arith, less)) low)
 
 -- the row of a number and a vertex is there
-pub row_inside : (game : Game) (e : Regex) (js : Jumps) → AreRows game e js → 0 < length js.rows.items → (number vertex : ℕ)
+pub row_inside : (game : Game) (e : Regex) (js : Jumps) → AreJumpRows game e js → 0 < length js.rows.items → (number vertex : ℕ)
     → number < count e + 1 → vertex < length game.vertices → number * length game.vertices + vertex < length js.rows.items
 row_inside game e js rows some number vertex less low =
     subst (λ k. number * length game.vertices + vertex < k) (sym (rows.whole some)) (in_rows number (count e + 1) (length game.vertices) vertex less low)
@@ -83,7 +83,7 @@ module _ (game : Game) (e : Regex) (S : SemiState) (none : (k : ℕ) → is_swit
       legal-by_HasEnd game e S none (inr (at_vertex S v, k, Reaches-by_Searched game e 0 S met.0 (at_vertex S v) k met.1, last))
 
   -- a row at one of whose shifts a word ends
-  pub legal_by_row : (p v : ℕ) (row : Row) → IsRow game e p v row → row.ends ≡ true → IsMetAt game e S p v → IsLegal game e S
+  pub legal_by_row : (p v : ℕ) (row : JumpRow) → IsRow game e p v row → row.ends ≡ true → IsMetAt game e S p v → IsLegal game e S
   legal_by_row p v row is ends met =
       let h = is.ends_only ends in
       let q = h.0 in
@@ -94,7 +94,7 @@ module _ (game : Game) (e : Regex) (S : SemiState) (none : (k : ℕ) → is_swit
       legal_by_end r w (met_next game e S none q u r w there h.5 (shift_leads game e S none r u w h.6)) h.7
 
   -- what is listed in a row can stand next to something that is met
-  pub before_by_row : (p v : ℕ) (row : Row) → IsRow game e p v row → IsMetAt game e S p v → (r u : ℕ) → IsAmong row.to.items r u → IsMetBefore game e S r u
+  pub before_by_row : (p v : ℕ) (row : JumpRow) → IsRow game e p v row → IsMetAt game e S p v → (r u : ℕ) → IsAmong row.to.items r u → IsMetBefore game e S r u
   before_by_row p v row is met r u among =
       let h = is.only r u among in
       (h.0, met_by_shifts game e S none p v h.0 u h.1 met, h.2)
@@ -222,7 +222,7 @@ module _ (game : Game) (e : Regex) (S : SemiState) (none : (k : ℕ) → is_swit
           subst (IsLeapt game e S ls) one here
 
   -- all jumps of a row are tried, and no word ends on the way
-  pub leapt_by_row : (ls : List Look) (l : Look) (row : Row) → IsRow game e l.place l.vertex row → row.ends ≡ false
+  pub leapt_by_row : (ls : List Look) (l : Look) (row : JumpRow) → IsRow game e l.place l.vertex row → row.ends ≡ false
       → ((i : ℕ) (j : Jump) → slice_get row.to.items i ≡ Some j → IsJumped game e S ls j.number j.vertex) → IsLeapt game e S ls l
   leapt_by_row ls l row is ends tried = record {
     jumps = λ q u r shifts next other T step.

@@ -5,10 +5,10 @@ use Rattle.rbg_game.specs.declared.position.SemiState.{SemiState}
 use Rattle.legal_moves.specs.Searches.{IsWideFrom}
 use Rattle.legal_moves.specs.lemmas.Searches.{IsLegal}
 use Rattle.legal_moves.specs.lemmas.Configurations.{expression_at}
-use Rattle.legal_moves.specs.declared.search.answers.Answer.{Answer}
+use Rattle.legal_moves.specs.declared.search.answers.LastPattern.{LastPattern}
 
 -- if an answer is kept, it is that of its pattern here, whose search is not too wide
-abbrev pub IsAnswerAt : Game → SemiState → Option Answer → Type 0
+abbrev pub IsAnswerAt : Game → SemiState → Option LastPattern → Type 0
 IsAnswerAt game S None = ⊤
 IsAnswerAt game S (Some a) =
     MatchBool a.holds (IsLegal game (expression_at game a.pattern) S) (¬ IsLegal game (expression_at game a.pattern) S)

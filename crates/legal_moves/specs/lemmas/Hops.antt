@@ -10,13 +10,13 @@ use Rattle.legal_moves.specs.Searches.{place_at}
 use Rattle.legal_moves.specs.Jumps.{label_in, Shifts}
 use Rattle.legal_moves.specs.Configurations.{Configuration}
 use Rattle.legal_moves.specs.lemmas.Configurations.{AsksTooMuch, opening}
-use Rattle.legal_moves.specs.lemmas.Reached.{IsMetBy, IsThere}
+use Rattle.legal_moves.specs.lemmas.Reached.{IsMetBy, IsAmongFound}
 use Rattle.legal_moves.specs.lemmas.VertexSearch.{at_vertex}
 use Rattle.legal_moves.specs.declared.limits.TheConstants.{WIDEST}
 
 -- what the occurrence r leads to from T is among them, and it is no pattern whose search is too wide
 pub record IsGoneOver (game : Game) (e : Regex) (cs : List Configuration) (T : SemiState) (r : ℕ) : Type 0 where
-  pub met : (U : SemiState) → EffectAt game e 1 r T U → IsThere cs U r
+  pub met : (U : SemiState) → EffectAt game e 1 r T U → IsAmongFound cs U r
   pub narrow : ¬ AsksTooMuch game e r T
 
 -- so it is with all but shifts that can stand next after shifts from the configuration, which ends no move

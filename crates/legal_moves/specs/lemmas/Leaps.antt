@@ -60,5 +60,5 @@ abbrev pub HaveRows : List Jumps → ℕ → Type 0
 HaveRows jumps index = (js : Jumps) → slice_get jumps index ≡ Some js → 0 < length js.rows.items
 
 -- the steps of the table at the index look alone, and are few
-abbrev pub AreNarrow : List Table → ℕ → Type 0
-AreNarrow tables index = (table : Table) → slice_get tables index ≡ Some table → AreFewLooks table.steps.items
+abbrev pub IsNarrowTable : List Table → ℕ → Type 0
+IsNarrowTable tables index = (table : Table) → slice_get tables index ≡ Some table → AreFewLooks table.steps.items

@@ -50,12 +50,12 @@ pub record AreKept (found : Found) : Type 0 where
   pub stands_are : AreChained (map bucket_at found.stands.items) found.stand_chains
 
 -- one of the configurations is shown
-pub record IsShown (found : Found) (shown : Shown) : Type 0 where
+pub record ShowsOne (found : Found) (shown : Shown) : Type 0 where
   pub at_one : shown.at < length found.stands.items
   pub state_is : shown.state ≡ state_at (configurations_of found) shown.at
 
 -- nothing is found yet, and there is room for boards of the size of the semi-state
-pub record IsEmpty (found : Found) (S : SemiState) : Type 0 where
+pub record IsEmptied (found : Found) (S : SemiState) : Type 0 where
   pub whole : AreWhole found.boards
   pub large : IsAsLarge found.boards S
   pub no_boards : boards_in found.boards ≡ []

@@ -7,9 +7,9 @@ ghost use Rattle.rbg_game.specs.Sound.{IsSoundGame};
 ghost use Rattle.legal_moves.specs.Configurations.{expressions_of};
 ghost use Rattle.legal_moves.specs.Glushkov.{IsNextAt};
 ghost use Rattle.legal_moves.specs.Tables.{AreTables};
-ghost use Rattle.legal_moves.specs.Jumps.{Shifts, IsRow, AreRows, AreNarrowRows, AreJumps};
+ghost use Rattle.legal_moves.specs.Jumps.{Shifts, IsRow, AreJumpRows, AreNarrowRows, AreJumps};
 ghost use Rattle.legal_moves.specs.lemmas.Configurations.{expression_at, IsReady};
-ghost use Rattle.legal_moves.specs.lemmas.Walks.{IsMetWith, IsKept, IsLed, IsNoted, IsGoneOn, AreInside, IsWhole};
+ghost use Rattle.legal_moves.specs.lemmas.Walks.{IsMetWith, KeepsClosure, IsLed, HasNoted, IsGoneOn, StaysOnBoard, IsClosure};
 ghost use Rattle.legal_moves.specs.declared.automaton.table.Table.{Table};
 
 use crate::automaton::table::Table;
@@ -28,7 +28,7 @@ pub struct Jump {
 
 /// What shifts alone lead to from one number and vertex.
 #[derive(Drop)]
-pub struct Row {
+pub struct JumpRow {
     /// The occurrences other than shifts.
     pub to: Vec<Jump>,
     /// Whether a word can end at one of those shifts.
@@ -40,7 +40,7 @@ pub struct Row {
 /// The rows of a table, one for each number and vertex, or none.
 #[derive(Drop)]
 pub struct Jumps {
-    pub rows: Vec<Row>,
+    pub rows: Vec<JumpRow>,
 }
 
 impl Jumps {
@@ -49,7 +49,7 @@ impl Jumps {
 
     /// The row of the number and the vertex.
     #[inline(always)]
-    pub fn row(&self, game: &Game, number: u16, vertex: u8) -> &Row
+    pub fn row(&self, game: &Game, number: u16, vertex: u8) -> &JumpRow
         requires few { length (game_of game.now).vertices ≤ 128 }
         requires inside { number * length (game_of game.now).vertices + vertex < length self.now.rows.items }
         ensures { slice_get self.now.rows.items (number * length (game_of game.now).vertices + vertex) ≡ Some result.now }
@@ -60,7 +60,7 @@ impl Jumps {
 
 /// A row that is made.
 #[derive(Drop)]
-pub struct Walk {
+pub struct ShiftClosure {
     /// Where it begins, and what shifts have led to.
     pub met: Vec<Jump>,
     /// The occurrences other than shifts.
@@ -73,7 +73,7 @@ pub struct Walk {
 pub fn jumps_of_rules(alloc: Global, game: &Game, tables: &[Table]) -> Result<Jumps, AllocError>
     requires sound { IsSoundGame (game_of game.now) }
     requires tables { AreTables (expressions_of (game_of game.now)) tables.now }
-    ensures { let game = game_of game.now in IfOk result (AreRows game game.rules) }
+    ensures { let game = game_of game.now in IfOk result (AreJumpRows game game.rules) }
 {
     let mut left = MOST_JUMPS;
     rows_of(alloc, game, tables, tables.len() - 1, &mut left)
@@ -123,7 +123,7 @@ pub fn rows_of(
     left: &mut usize,
 ) -> Result<Jumps, AllocError>
     requires ready { IsReady (game_of game.now) tables.now index }
-    ensures { let game = game_of game.now in IfOk result (AreRows game (expression_at game index)) }
+    ensures { let game = game_of game.now in IfOk result (AreJumpRows game (expression_at game index)) }
 {
     let table = &tables[index];
     let mut rows = Vec::new(alloc);
@@ -151,7 +151,7 @@ fn row_from(
     index: usize,
     start: Jump,
     left: &mut usize,
-) -> Result<Option<Row>, AllocError>
+) -> Result<Option<JumpRow>, AllocError>
     requires ready { IsReady (game_of game.now) tables.now index }
     requires inside { start.vertex < length (game_of game.now).vertices }
     ensures { let game = game_of game.now in IfOk result
@@ -160,14 +160,14 @@ fn row_from(
     let Some(walk) = walk_from(alloc, game, tables, index, start)? else {
         return Ok(None);
     };
-    let Walk { met, to, ends } = walk;
+    let ShiftClosure { met, to, ends } = walk;
     let met = met.len();
     let much = met + to.len();
     if much > *left {
         return Ok(None);
     }
     *left -= much;
-    Ok(Some(Row { to, ends, met }))
+    Ok(Some(JumpRow { to, ends, met }))
 }
 
 /// Goes through all that shifts lead to; none where that is too much.
@@ -177,13 +177,13 @@ fn walk_from(
     tables: &[Table],
     index: usize,
     start: Jump,
-) -> Result<Option<Walk>, AllocError>
+) -> Result<Option<ShiftClosure>, AllocError>
     requires ready { IsReady (game_of game.now) tables.now index }
     requires inside { start.vertex < length (game_of game.now).vertices }
     ensures { let game = game_of game.now in IfOk result
-        (λ o. IfSome o (IsWhole game (expression_at game index) start.number start.vertex)) }
+        (λ o. IfSome o (IsClosure game (expression_at game index) start.number start.vertex)) }
 {
-    let mut walk = Walk {
+    let mut walk = ShiftClosure {
         met: Vec::new(alloc),
         to: Vec::new(alloc),
         ends: false,
@@ -203,13 +203,13 @@ fn go_on(
     game: &Game,
     tables: &[Table],
     index: usize,
-    walk: &mut Walk,
+    walk: &mut ShiftClosure,
     at: usize,
 ) -> Result<(), AllocError>
     requires ready { IsReady (game_of game.now) tables.now index }
     requires at { at < length walk.old.met.items }
-    requires inside { AreInside (game_of game.now) walk.old }
-    ensures kept { OnOk result (IsKept walk.old walk.new) }
+    requires inside { StaysOnBoard (game_of game.now) walk.old }
+    ensures kept { OnOk result (KeepsClosure walk.old walk.new) }
     ensures gone { let game = game_of game.now in OnOk result (IsGoneOn game (expression_at game index) walk.new at) }
     ensures led { let game = game_of game.now in let e = expression_at game index in
         (p v : ℕ) → IsLed game e p v walk.old → OnOk result (IsLed game e p v walk.new) }
@@ -226,7 +226,7 @@ fn note(
     game: &Game,
     tables: &[Table],
     index: usize,
-    walk: &mut Walk,
+    walk: &mut ShiftClosure,
     vertex: u8,
     next: u16,
 ) -> Result<(), AllocError>
@@ -234,8 +234,8 @@ fn note(
     requires inside { vertex < length (game_of game.now).vertices }
     requires from { 1 ≤ next }
     requires upto { next ≤ count (expression_at (game_of game.now) index) }
-    ensures kept { OnOk result (IsKept walk.old walk.new) }
-    ensures noted { let game = game_of game.now in OnOk result (IsNoted game (expression_at game index) walk.new vertex next) }
+    ensures kept { OnOk result (KeepsClosure walk.old walk.new) }
+    ensures noted { let game = game_of game.now in OnOk result (HasNoted game (expression_at game index) walk.new vertex next) }
     ensures led { let game = game_of game.now in let e = expression_at game index in
         (p v q : ℕ) → IsLed game e p v walk.old → Shifts game e p v q vertex → IsNextAt e q next → OnOk result (IsLed game e p v walk.new) }
 {
@@ -255,7 +255,7 @@ fn note(
 }
 
 /// Adds where a shift leads, if that is new, and whether a word ends there.
-fn come_to(walk: &mut Walk, number: u16, vertex: u8, ends: bool) -> Result<(), AllocError>
+fn come_to(walk: &mut ShiftClosure, number: u16, vertex: u8, ends: bool) -> Result<(), AllocError>
     ensures met { OnOk result (IsMetWith walk.old.met.items number vertex walk.new.met.items) }
     ensures to { OnOk result (walk.new.to.items ≡ walk.old.to.items) }
     ensures ends { OnOk result (walk.new.ends ≡ (walk.old.ends || ends)) }

@@ -182,7 +182,7 @@ pub struct Table {
     pub ends: Ends,
     /// For each number whether words can end there.
     pub lasts: Vec<bool>,
-    /// Whether all steps only look, as far as was seen: a search that only looks is tried first then.
+    /// Whether all steps only look, so that a search that writes nothing is tried first. It may be false needlessly.
     pub looks: bool,
     /// No search of it can be too wide, so that one which only has to tell yes or no may stop at the first yes. It may be false needlessly.
     pub narrow: bool,

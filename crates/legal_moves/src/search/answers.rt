@@ -26,7 +26,7 @@ use rbg_game::position::SemiState;
 
 /// What the pattern that was asked last has answered.
 #[derive(Clone, Copy)]
-pub struct Answer {
+pub struct LastPattern {
     /// The number of the first pattern that asks the same.
     pub pattern: usize,
     pub holds: bool,
@@ -41,7 +41,7 @@ impl Searcher<'_> {
         index: usize,
         state: &SemiState,
         vertex: u8,
-        known: &mut Option<Answer>,
+        known: &mut Option<LastPattern>,
     ) -> Result<bool, MoveFault>
         requires ready { IsReady (game_of self.now.game.now) self.now.tables.now index }
         requires same { AreSame (inner_of (game_of self.now.game.now).rules) self.now.same.now }
@@ -65,7 +65,7 @@ impl Searcher<'_> {
             return Ok(answer.holds);
         }
         let holds = self.is_legal(room, index, state, vertex)?;
-        *known = Some(Answer { pattern, holds });
+        *known = Some(LastPattern { pattern, holds });
         Ok(holds)
     }
 
@@ -239,7 +239,7 @@ impl Searcher<'_> {
         state: &SemiState,
         vertex: u8,
         number: u16,
-        known: &mut Option<Answer>,
+        known: &mut Option<LastPattern>,
     ) -> Result<Glance, MoveFault>
         requires ready { IsReady (game_of self.now.game.now) self.now.tables.now index }
         requires same { AreSame (inner_of (game_of self.now.game.now).rules) self.now.same.now }

@@ -56,7 +56,7 @@ pub struct Found {
 }
 
 impl Found {
-    ghost use Rattle.legal_moves.specs.lemmas.Stands.{configurations_of, AreKept, IsEmpty, IsShown, IsNewBoard, bucket_at, IsNewStand, IsStandAdded};
+    ghost use Rattle.legal_moves.specs.lemmas.Stands.{configurations_of, AreKept, IsEmptied, ShowsOne, IsNewBoard, bucket_at, IsNewStand, IsStandAdded};
 
     /// The opening configuration alone, in the room of a search that is over, if there is one.
     pub fn begun(
@@ -85,7 +85,7 @@ impl Found {
 
     /// Nothing found, in the room of a search that is over, if there is one.
     fn room(alloc: Global, spare: &mut Vec<Found>, state: &SemiState) -> Result<Found, AllocError>
-        ensures { IfOk result (λ found. IsEmpty found state.now) }
+        ensures { IfOk result (λ found. IsEmptied found state.now) }
     {
         if let Some(over) = spare.pop() {
             return over.emptied(state);
@@ -97,7 +97,7 @@ impl Found {
     /// function may need.
     #[inline(never)]
     fn new(alloc: Global, state: &SemiState) -> Result<Found, AllocError>
-        ensures { IfOk result (λ found. IsEmpty found state.now) }
+        ensures { IfOk result (λ found. IsEmptied found state.now) }
     {
         Ok(Found {
             boards: Boards::new(alloc, state)?,
@@ -109,7 +109,7 @@ impl Found {
 
     /// Nothing found, in the same room.
     fn emptied(self, state: &SemiState) -> Result<Found, AllocError>
-        ensures { IfOk result (λ found. IsEmpty found state.now) }
+        ensures { IfOk result (λ found. IsEmptied found state.now) }
     {
         let Found {
             boards,
@@ -130,7 +130,7 @@ impl Found {
     pub fn show(&self, at: usize, shown: &mut Shown)
         requires kept { AreKept self.now }
         requires at { at < length self.now.stands.items }
-        requires shown { IsShown self.now shown.old }
+        requires shown { ShowsOne self.now shown.old }
         ensures at { shown.new.at ≡ at }
         ensures state { shown.new.state ≡ state_at (configurations_of self.now) at }
     {

@@ -8,7 +8,7 @@ ghost use Rattle.rbg_game.specs.declared.position.SemiState.{SemiState};
 ghost use Rattle.legal_moves.specs.Configurations.{Configuration};
 ghost use Rattle.legal_moves.specs.Searches.{place_at, IsWideFrom};
 ghost use Rattle.legal_moves.specs.Tables.{inner_of, AreSame};
-ghost use Rattle.legal_moves.specs.Jumps.{AreRows, AreJumps};
+ghost use Rattle.legal_moves.specs.Jumps.{AreJumpRows, AreJumps};
 ghost use Rattle.legal_moves.specs.lemmas.Answers.{IsAnswerAt};
 ghost use Rattle.legal_moves.specs.lemmas.Configurations.{expression_at, IsReady, AsksTooMuch};
 ghost use Rattle.legal_moves.specs.lemmas.Hops.{IsHopping, AreStillThere, AreCounted};
@@ -22,7 +22,7 @@ use crate::copies::empty_state;
 use crate::effect::Glance;
 use crate::fault::MoveFault;
 use crate::limits::WIDEST;
-use crate::search::answers::Answer;
+use crate::search::answers::LastPattern;
 use crate::search::found::{Found, Stand};
 use crate::search::room::Room;
 use crate::search::searcher::Searcher;
@@ -47,7 +47,7 @@ impl Hopper<'_> {
         requires ready { IsReady (game_of self.now.searcher.game.now) self.now.searcher.tables.now index }
         requires same { AreSame (inner_of (game_of self.now.searcher.game.now).rules) self.now.searcher.same.now }
         requires jumps { AreJumps (game_of self.now.searcher.game.now) self.now.searcher.tables.now self.now.searcher.jumps.now }
-        requires rows { let game = game_of self.now.searcher.game.now in AreRows game (expression_at game index) self.now.rows.now }
+        requires rows { let game = game_of self.now.searcher.game.now in AreJumpRows game (expression_at game index) self.now.rows.now }
         requires state { IsStateOf (game_of self.now.searcher.game.now) state.now }
         requires place { place ≤ count (expression_at (game_of self.now.searcher.game.now) index) }
         ensures reached { let game = game_of self.now.searcher.game.now in let e = expression_at game index in IfOk result
@@ -74,7 +74,7 @@ impl Hopper<'_> {
         requires ready { IsReady (game_of self.now.searcher.game.now) self.now.searcher.tables.now index }
         requires same { AreSame (inner_of (game_of self.now.searcher.game.now).rules) self.now.searcher.same.now }
         requires jumps { AreJumps (game_of self.now.searcher.game.now) self.now.searcher.tables.now self.now.searcher.jumps.now }
-        requires rows { let game = game_of self.now.searcher.game.now in AreRows game (expression_at game index) self.now.rows.now }
+        requires rows { let game = game_of self.now.searcher.game.now in AreJumpRows game (expression_at game index) self.now.rows.now }
         requires state { IsStateOf (game_of self.now.searcher.game.now) state.now }
         requires place { place ≤ count (expression_at (game_of self.now.searcher.game.now) index) }
         ensures reached { let game = game_of self.now.searcher.game.now in let e = expression_at game index in IfOk result
@@ -113,7 +113,7 @@ impl Hopper<'_> {
         requires ready { IsReady (game_of self.now.searcher.game.now) self.now.searcher.tables.now index }
         requires same { AreSame (inner_of (game_of self.now.searcher.game.now).rules) self.now.searcher.same.now }
         requires jumps { AreJumps (game_of self.now.searcher.game.now) self.now.searcher.tables.now self.now.searcher.jumps.now }
-        requires rows { let game = game_of self.now.searcher.game.now in AreRows game (expression_at game index) self.now.rows.now }
+        requires rows { let game = game_of self.now.searcher.game.now in AreJumpRows game (expression_at game index) self.now.rows.now }
         requires some { 0 < length self.now.rows.now.rows.items }
         requires place { place ≤ count (expression_at (game_of self.now.searcher.game.now) index) }
         requires at { at < length found.old.stands.items }
@@ -155,7 +155,7 @@ impl Hopper<'_> {
         requires ready { IsReady (game_of self.now.searcher.game.now) self.now.searcher.tables.now index }
         requires same { AreSame (inner_of (game_of self.now.searcher.game.now).rules) self.now.searcher.same.now }
         requires jumps { AreJumps (game_of self.now.searcher.game.now) self.now.searcher.tables.now self.now.searcher.jumps.now }
-        requires rows { let game = game_of self.now.searcher.game.now in AreRows game (expression_at game index) self.now.rows.now }
+        requires rows { let game = game_of self.now.searcher.game.now in AreJumpRows game (expression_at game index) self.now.rows.now }
         requires some { 0 < length self.now.rows.now.rows.items }
         requires place { place ≤ count (expression_at (game_of self.now.searcher.game.now) index) }
         requires at { at < length found.old.stands.items }
@@ -198,7 +198,7 @@ impl Hopper<'_> {
         at: usize,
         here: &SemiState,
         jump: Jump,
-        known: &mut Option<Answer>,
+        known: &mut Option<LastPattern>,
     ) -> Result<(), MoveFault>
         requires ready { IsReady (game_of self.now.searcher.game.now) self.now.searcher.tables.now index }
         requires same { AreSame (inner_of (game_of self.now.searcher.game.now).rules) self.now.searcher.same.now }
@@ -248,7 +248,7 @@ fn looked_up(place: u16, last: u16) -> u16
 }
 
 /// Forgets what a pattern has answered at another vertex.
-fn ask_at(vertex: u8, asked: &mut u8, known: &mut Option<Answer>)
+fn ask_at(vertex: u8, asked: &mut u8, known: &mut Option<LastPattern>)
     ensures asked { asked.new ≡ vertex }
     ensures known { (game : Game) (S : SemiState) → IsAnswerAt game (at_vertex S asked.old) known.old
         → IsAnswerAt game (at_vertex S vertex) known.new }

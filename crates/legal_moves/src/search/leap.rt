@@ -11,11 +11,11 @@ ghost use Rattle.legal_moves.specs.Glushkov.{is_nullable};
 ghost use Rattle.legal_moves.specs.Searches.{IsWideFrom};
 ghost use Rattle.legal_moves.specs.Jumps.{IsRow, AreJumps};
 ghost use Rattle.legal_moves.specs.lemmas.Configurations.{expression_at, IsReady};
-ghost use Rattle.legal_moves.specs.lemmas.Leaps.{opened, IsMetBefore, AreStill, IsJumped, IsLeaping, HaveRows, AreNarrow};
+ghost use Rattle.legal_moves.specs.lemmas.Leaps.{opened, IsMetBefore, AreStill, IsJumped, IsLeaping, HaveRows, IsNarrowTable};
 ghost use Rattle.legal_moves.specs.lemmas.VertexSearch.{at_vertex, AreMarked};
 ghost use Rattle.legal_moves.specs.lemmas.Searches.{IsLegal};
 
-use crate::automaton::jumps::{Jump, Row};
+use crate::automaton::jumps::{Jump, JumpRow};
 use crate::automaton::table::Step;
 use crate::effect::{Glance, at_a_glance};
 use crate::fault::MoveFault;
@@ -80,7 +80,7 @@ impl Searcher<'_> {
         requires ready { IsReady (game_of self.now.game.now) self.now.tables.now index }
         requires jumps { AreJumps (game_of self.now.game.now) self.now.tables.now self.now.jumps.now }
         requires rows { HaveRows self.now.jumps.now index }
-        requires narrow { AreNarrow self.now.tables.now index }
+        requires narrow { IsNarrowTable self.now.tables.now index }
         requires state { IsStateOf (game_of self.now.game.now) (at_vertex state.now vertex) }
         requires lacks { LacksSwitch (expression_at (game_of self.now.game.now) index) }
         requires some { is_nullable (expression_at (game_of self.now.game.now) index) ≡ false }
@@ -141,7 +141,7 @@ impl Searcher<'_> {
     }
 
     /// The row of the number and the vertex.
-    fn row(&self, index: usize, number: u16, vertex: u8) -> &Row
+    fn row(&self, index: usize, number: u16, vertex: u8) -> &JumpRow
         requires ready { IsReady (game_of self.now.game.now) self.now.tables.now index }
         requires jumps { AreJumps (game_of self.now.game.now) self.now.tables.now self.now.jumps.now }
         requires rows { HaveRows self.now.jumps.now index }
@@ -163,7 +163,7 @@ impl Searcher<'_> {
         at: usize,
     ) -> Result<bool, MoveFault>
         requires ready { IsReady (game_of self.now.game.now) self.now.tables.now index }
-        requires narrow { AreNarrow self.now.tables.now index }
+        requires narrow { IsNarrowTable self.now.tables.now index }
         requires inside { IsStateOf (game_of self.now.game.now) (at_vertex state.now jump.vertex) }
         requires lacks { LacksSwitch (expression_at (game_of self.now.game.now) index) }
         requires before { let S = at_vertex state.now (opened looks.old.looks.items) in let game = game_of self.now.game.now in
@@ -198,7 +198,7 @@ impl Searcher<'_> {
     #[inline(always)]
     fn leads_to(&self, index: usize, number: u16, state: &SemiState, vertex: u8) -> Option<u8>
         requires ready { IsReady (game_of self.now.game.now) self.now.tables.now index }
-        requires narrow { AreNarrow self.now.tables.now index }
+        requires narrow { IsNarrowTable self.now.tables.now index }
         requires state { IsStateOf (game_of self.now.game.now) (at_vertex state.now vertex) }
         requires from { 1 ≤ number }
         requires upto { number ≤ count (expression_at (game_of self.now.game.now) index) }

@@ -10,14 +10,14 @@ ghost use Rattle.legal_moves.specs.Jumps.{AreJumps};
 ghost use Rattle.legal_moves.specs.lemmas.Answers.{IsAnswerAt};
 ghost use Rattle.legal_moves.specs.lemmas.Progress.{began, state_at, IsGoing, IsTried, IsFull};
 ghost use Rattle.legal_moves.specs.lemmas.VertexSearch.{TellsAt};
-ghost use Rattle.legal_moves.specs.lemmas.Stands.{configurations_of, AreKept, IsShown};
+ghost use Rattle.legal_moves.specs.lemmas.Stands.{configurations_of, AreKept, ShowsOne};
 
 use crate::automaton::jumps::Jumps;
 use crate::automaton::table::{Step, Table};
 use crate::copies::{copy_state, empty_state};
 use crate::effect::{Glance, glance_where_seen};
 use crate::fault::MoveFault;
-use crate::search::answers::Answer;
+use crate::search::answers::LastPattern;
 use crate::search::found::{Found, Shown, Stand};
 use crate::search::room::Room;
 use rbg_game::game::Game;
@@ -86,11 +86,11 @@ impl Searcher<'_> {
         requires jumps { AreJumps (game_of self.now.game.now) self.now.tables.now self.now.jumps.now }
         requires at { at < length found.old.stands.items }
         requires kept { AreKept found.old }
-        requires shown { IsShown found.old here.old }
+        requires shown { ShowsOne found.old here.old }
         requires going { let game = game_of self.now.game.now in let e = expression_at game index in IsGoing game e place
             (began (configurations_of found.old)) (configurations_of found.old) at }
         ensures kept { OnOk result (AreKept found.new) }
-        ensures shown { OnOk result (IsShown found.new here.new) }
+        ensures shown { OnOk result (ShowsOne found.new here.new) }
         ensures going { let game = game_of self.now.game.now in let e = expression_at game index in OnOk result
             (IsGoing game e place (began (configurations_of found.old)) (configurations_of found.new) (at + 1)) }
         ensures wide { let game = game_of self.now.game.now in let e = expression_at game index in result ≡ Err MoveFault.TooWide
@@ -123,21 +123,21 @@ impl Searcher<'_> {
         at: usize,
         here: &mut Shown,
         number: u16,
-        known: &mut Option<Answer>,
+        known: &mut Option<LastPattern>,
     ) -> Result<(), MoveFault>
         requires ready { IsReady (game_of self.now.game.now) self.now.tables.now index }
         requires same { AreSame (inner_of (game_of self.now.game.now).rules) self.now.same.now }
         requires jumps { AreJumps (game_of self.now.game.now) self.now.tables.now self.now.jumps.now }
         requires at { at < length found.old.stands.items }
         requires kept { AreKept found.old }
-        requires shown { IsShown found.old here.old }
+        requires shown { ShowsOne found.old here.old }
         requires state { IsStateOf (game_of self.now.game.now) (state_at (configurations_of found.old) at) }
         requires from { 1 ≤ number }
         requires upto { number ≤ count (expression_at (game_of self.now.game.now) index) }
         requires known { IsAnswerAt (game_of self.now.game.now) (state_at (configurations_of found.old) at) known.old }
         ensures known { OnOk result (IsAnswerAt (game_of self.now.game.now) (state_at (configurations_of found.old) at) known.new) }
         ensures kept { OnOk result (AreKept found.new) }
-        ensures shown { OnOk result (IsShown found.new here.new) }
+        ensures shown { OnOk result (ShowsOne found.new here.new) }
         ensures tried { let game = game_of self.now.game.now in let e = expression_at game index in OnOk result
             (IsTried game e number at (configurations_of found.old) (configurations_of found.new)) }
         ensures narrow { let game = game_of self.now.game.now in let e = expression_at game index in IsOk result
@@ -178,20 +178,20 @@ impl Searcher<'_> {
         at: usize,
         here: &mut Shown,
         number: u16,
-        known: &mut Option<Answer>,
+        known: &mut Option<LastPattern>,
     ) -> Result<Glance, MoveFault>
         requires ready { IsReady (game_of self.now.game.now) self.now.tables.now index }
         requires same { AreSame (inner_of (game_of self.now.game.now).rules) self.now.same.now }
         requires jumps { AreJumps (game_of self.now.game.now) self.now.tables.now self.now.jumps.now }
         requires at { at < length found.now.stands.items }
         requires kept { AreKept found.now }
-        requires shown { IsShown found.now here.old }
+        requires shown { ShowsOne found.now here.old }
         requires state { IsStateOf (game_of self.now.game.now) (state_at (configurations_of found.now) at) }
         requires from { 1 ≤ number }
         requires upto { number ≤ count (expression_at (game_of self.now.game.now) index) }
         requires known { IsAnswerAt (game_of self.now.game.now) (state_at (configurations_of found.now) at) known.old }
         ensures known { OnOk result (IsAnswerAt (game_of self.now.game.now) (state_at (configurations_of found.now) at) known.new) }
-        ensures shown { OnOk result (IsShown found.now here.new) }
+        ensures shown { OnOk result (ShowsOne found.now here.new) }
         ensures tells { let game = game_of self.now.game.now in let e = expression_at game index in IfOk result
             (TellsAt game e number (state_at (configurations_of found.now) at)) }
         ensures narrow { let game = game_of self.now.game.now in let e = expression_at game index in IsOk result

@@ -3,7 +3,7 @@ use Rattle.std.specs.Prelude.{◌≡◌, ◌≢◌, ◌⊎◌, ℕ, ◌≤◌, �
 use Rattle.std.proofs.Common.{refl, sym, ◌∙◌, ap, subst, arith, inl, inr}
 use Rattle.std.proofs.lemmas.Bool.{cases_lt}
 use Rattle.std.proofs.lemmas.List.{ext_get_or, get_or_past}
-use Rattle.sector_disk.specs.Disk.{Picture, Disk}
+use Rattle.sector_disk.specs.Disk.{Image, Disk}
 use Rattle.sector_disk.specs.lemmas.Moments.{leaves_more, leaves_then, still_honest}
 use Rattle.page_store.specs.declared.marks.Mark.{Mark}
 use Rattle.page_store.specs.declared.marks.Mark.TheVariants.{Committed, Waiting, Fresh, Released, Free, Past}
@@ -26,30 +26,30 @@ spelled_as : {named : ℕ → Type 0} {Spelt : (ℕ → List ℕ) → Type 0} (b
     → SpelledBy named bytes Spelt → SpelledBy named other Spelt
 spelled_as bytes other agree spelled = record { anywhere = λ more same. spelled.anywhere more (λ p here. same p here ∙ agree p here) }
 
--- a picture that was saved spells what stands
-pub saved_spells : {named : ℕ → Type 0} {Spelt : (ℕ → List ℕ) → Type 0} (store : Store) → Stands named Spelt store → (picture : Picture)
-    → Saved store picture
-    → Spells store.root (length store.marks) Spelt picture
-saved_spells store stands picture saved = record {
+-- an image that was saved spells what stands
+pub saved_spells : {named : ℕ → Type 0} {Spelt : (ℕ → List ℕ) → Type 0} (store : Store) → Stands named Spelt store → (image : Image)
+    → Saved store image
+    → Spells store.root (length store.marks) Spelt image
+saved_spells store stands image saved = record {
   holds = saved.holds;
   room = saved.room;
-  spelt = stands.spelled.anywhere (page picture) (λ p here. saved.pages p (stands.needed p here));
+  spelt = stands.spelled.anywhere (page image) (λ p here. saved.pages p (stands.needed p here));
 }
 
--- a picture with a new root in its place spells what was prepared
+-- an image with a new root in its place spells what was prepared
 pub saved_as_spells : {named : ℕ → Type 0} {Spelt : (ℕ → List ℕ) → Type 0} (root : List ℕ) (store : Store) → IsPrepared named Spelt store
-    → (picture : Picture) → SavedAs root store picture
-    → Spells root (length store.marks) Spelt picture
-saved_as_spells root store prepared picture saved = record {
+    → (image : Image) → SavedAs root store image
+    → Spells root (length store.marks) Spelt image
+saved_as_spells root store prepared image saved = record {
   holds = saved.holds;
   room = saved.room;
-  spelt = prepared.spelled.anywhere (page picture) (λ p here. saved.pages p (prepared.kept p here).0);
+  spelt = prepared.spelled.anywhere (page image) (λ p here. saved.pages p (prepared.kept p here).0);
 }
 
 -- a stop leaves what stands
 pub stop_leaves : {named : ℕ → Type 0} {Spelt : (ℕ → List ℕ) → Type 0} (store : Store) → Stands named Spelt store → IsSafe store
     → StopLeaves store (Spells store.root (length store.marks) Spelt)
-stop_leaves store stands safe picture left = saved_spells store stands picture (safe_saves store safe picture left)
+stop_leaves store stands safe image left = saved_spells store stands image (safe_saves store safe image left)
 
 -- a call that commits nothing keeps what stands
 pub works_stands : {named : ℕ → Type 0} {Spelt : (ℕ → List ℕ) → Type 0} (old new : Store) → IsTrue old.disk.honest → StoreWorks old new
@@ -106,15 +106,15 @@ commit_carries {was_named} {Was} {named} {Is} root old mid new honest safe stand
   left_stop = λ same.
       leaves_more (saved_spells old stands)
       (leaves_then commits.goes_on (works.leaves honest safe)
-      (leaves_more (λ picture can. saved_before works honest picture (safe_saves mid (works.safe honest safe) picture can))
+      (leaves_more (λ image can. saved_before works honest image (safe_saves mid (works.safe honest safe) image can))
       (same.leaves (still_honest works.goes_on honest))));
 }
   where
-    each : (picture : Picture) → Saved old picture ⊎ SavedAs root mid picture → Spells old.root (length old.marks) Was picture
-        ⊎ Spells root (length old.marks) Is picture
-    each picture (inl saved) = inl (saved_spells old stands picture saved)
-    each picture (inr saved) = inr (subst (λ (n : ℕ). Spells root n Is picture) works.same_pages
-        (saved_as_spells root mid prepared picture saved))
+    each : (image : Image) → Saved old image ⊎ SavedAs root mid image → Spells old.root (length old.marks) Was image
+        ⊎ Spells root (length old.marks) Is image
+    each image (inl saved) = inl (saved_spells old stands image saved)
+    each image (inr saved) = inr (subst (λ (n : ℕ). Spells root n Is image) works.same_pages
+        (saved_as_spells root mid prepared image saved))
 
 -- before any page is marked, whatever pages are named may be needed
 pub opened_stands : {named : ℕ → Type 0} {Spelt : (ℕ → List ℕ) → Type 0} (disk : Disk) (count : ℕ) (store : Store)
@@ -196,14 +196,14 @@ committed_calm root old new none done = record {
   each = λ p. subst (λ (m : Mark). IsTrue (rests m)) (sym (done.marks.each p)) (calm_committed (holders_at old.holds.of p) (mark old.marks p) (none p));
 }
 
--- a picture with the new root of a store that grew spells what stands
+-- an image with the new root of a store that grew spells what stands
 pub saved_in_spells : {named : ℕ → Type 0} {Spelt : (ℕ → List ℕ) → Type 0} (root : List ℕ) (pages : ℕ) (store : Store) → Stands named Spelt store
-    → (picture : Picture) → SavedIn root pages store picture
-    → Spells root pages Spelt picture
-saved_in_spells root pages store stands picture saved = record {
+    → (image : Image) → SavedIn root pages store image
+    → Spells root pages Spelt image
+saved_in_spells root pages store stands image saved = record {
   holds = saved.holds;
   room = saved.room;
-  spelt = stands.spelled.anywhere (page picture) (λ p here. let needed = stands.needed p here in saved.pages p (needed.0, needed.1));
+  spelt = stands.spelled.anywhere (page image) (λ p here. let needed = stands.needed p here in saved.pages p (needed.0, needed.1));
 }
 
 -- a page that is needed where nothing is released is needed after a commit too
@@ -241,10 +241,10 @@ grow_carries {named} {Spelt} root pages old new honest safe sound more calm stan
   left_stop = λ left. leaves_more (saved_spells old stands) (left.leaves honest safe);
 }
   where
-    each : (picture : Picture) → Saved old picture ⊎ SavedIn root pages old picture
-        → Spells old.root (length old.marks) Spelt picture ⊎ Spells root pages Spelt picture
-    each picture (inl saved) = inl (saved_spells old stands picture saved)
-    each picture (inr saved) = inr (saved_in_spells root pages old stands picture saved)
+    each : (image : Image) → Saved old image ⊎ SavedIn root pages old image
+        → Spells old.root (length old.marks) Spelt image ⊎ Spells root pages Spelt image
+    each image (inl saved) = inl (saved_spells old stands image saved)
+    each image (inr saved) = inr (saved_in_spells root pages old stands image saved)
 
 -- a store of which no page waits and that has grown: nothing is handed out or released
 pub grown_calm : (root : List ℕ) (pages : ℕ) (old new : Store) → ((p : ℕ) → mark old.marks p ≡ Waiting → ⊥) → IsStoreGrown root pages old new → IsCalm new

@@ -26,6 +26,6 @@ pub record IsMadeLonger (old new : Disk) : Type 0 where
   pub no_shorter : size old ≤ size new
 
 -- it has this many sectors, and all is synced
-pub record HasRoom (sectors : ℕ) (old new : Disk) : Type 0 where
+pub record HasSyncedSectors (sectors : ℕ) (old new : Disk) : Type 0 where
   pub room : sectors ≤ size new
   pub synced : IsTrue old.honest → AllSynced new.now

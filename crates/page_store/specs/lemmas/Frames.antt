@@ -18,7 +18,7 @@ unchanged_refl store = record {
   closed = refl;
   shown = λ honest. refl;
   failed_writes = refl;
-  leaves = λ honest. leaves_now store.disk (λ picture left. left);
+  leaves = λ honest. leaves_now store.disk (λ image left. left);
   holds = refl;
 }
 
@@ -40,7 +40,7 @@ unchanged_then one two first second = record {
   shown = λ honest. second.shown (still_honest one.goes_on honest) ∙ first.shown honest;
   leaves = λ honest.
       leaves_then two.goes_on (first.leaves honest)
-      (leaves_more (λ picture left. subst (λ (s : Shown). MayLeave s picture) (first.shown honest) left)
+      (leaves_more (λ image left. subst (λ (s : Shown). MayLeave s image) (first.shown honest) left)
       (second.leaves (still_honest one.goes_on honest)));
   holds = second.holds ∙ first.holds;
 }
@@ -54,7 +54,7 @@ pub marks_none : (store : Store) → OnlyMarks store store
 marks_none store = record {
   works = works_refl store;
   shown = λ honest. refl;
-  leaves = λ honest. leaves_now store.disk (λ picture left. left);
+  leaves = λ honest. leaves_now store.disk (λ image left. left);
   closed = refl;
   others = λ p. inl refl;
 }
@@ -65,7 +65,7 @@ marks_then {old} {mid} {new} first second = record {
   shown = λ honest. second.shown (still_honest first.works.goes_on honest) ∙ first.shown honest;
   leaves = λ honest.
       leaves_then second.works.goes_on (first.leaves honest)
-      (leaves_more (λ picture left. subst (λ (s : Shown). MayLeave s picture) (first.shown honest) left) (second.leaves (still_honest first.works.goes_on honest)));
+      (leaves_more (λ image left. subst (λ (s : Shown). MayLeave s image) (first.shown honest) left) (second.leaves (still_honest first.works.goes_on honest)));
   closed = second.closed ∙ first.closed;
   others = each;
 }

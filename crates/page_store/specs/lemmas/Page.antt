@@ -1,6 +1,6 @@
 -- How a page is joined of its sectors, and that the same sectors make the same page.
 use Rattle.std.specs.Prelude.{◌⊎◌, ℕ, zero, suc, ◌+◌, ◌*◌, ◌<◌, ◌≤◌, [], ◌++◌, ◌≡◌}
-use Rattle.sector_disk.specs.Disk.{Picture, sector}
+use Rattle.sector_disk.specs.Disk.{Image, sector}
 use Rattle.page_store.specs.Page.{joined, page, IsWithin}
 use Rattle.std.proofs.Common.{refl, arith}
 
@@ -8,16 +8,16 @@ use Rattle.std.proofs.Common.{refl, arith}
 abbrev pub IsOutside : ℕ → ℕ → Type 0
 IsOutside number k = (k < 8 * number) ⊎ (8 * number + 8 ≤ k)
 
-pub joined-none : (picture : Picture) (at : ℕ) → joined picture at 0 ≡ []
+pub joined-none : (image : Image) (at : ℕ) → joined image at 0 ≡ []
 unfolding joined
-joined-none picture at = refl
+joined-none image at = refl
 
-pub joined-more : (picture : Picture) (at n : ℕ) → joined picture at (suc n) ≡ joined picture at n ++ sector picture (at + n)
+pub joined-more : (image : Image) (at n : ℕ) → joined image at (suc n) ≡ joined image at n ++ sector image (at + n)
 unfolding joined
-joined-more picture at n = refl
+joined-more image at n = refl
 
 -- sectors that read the same join to the same
-pub joined_same : (one other : Picture) (at n : ℕ) → ((k : ℕ) → at ≤ k → k < at + n → sector one k ≡ sector other k)
+pub joined_same : (one other : Image) (at n : ℕ) → ((k : ℕ) → at ≤ k → k < at + n → sector one k ≡ sector other k)
     → joined one at n ≡ joined other at n
 unfolding joined
 joined_same one other at zero same = refl
@@ -25,6 +25,6 @@ joined_same one other at (suc n) same = λ i. joined_same one other at n (λ k l
     (omega arith) (omega arith) i
 
 -- and pages too
-pub page_same : (one other : Picture) (number : ℕ) → ((k : ℕ) → IsWithin number k → sector one k ≡ sector other k)
+pub page_same : (one other : Image) (number : ℕ) → ((k : ℕ) → IsWithin number k → sector one k ≡ sector other k)
     → page one number ≡ page other number
 page_same one other number same = joined_same one other (8 * number) 8 (λ k low high. same k (low, high))

@@ -3,7 +3,7 @@ use Rattle.std.specs.Prelude.{◌≡◌, ◌⊎◌, ℕ, ◌<◌, ◌≤◌, Boo
 use Rattle.std.proofs.Common.{refl, sym, ◌∙◌, ap, subst, arith, inl, inr}
 use Rattle.std.proofs.lemmas.Bool.{cases_lt}
 use Rattle.std.proofs.lemmas.List.{get_or_past}
-use Rattle.sector_disk.specs.Disk.{Picture, Disk, GoesOn, Grew, LeavesOnly}
+use Rattle.sector_disk.specs.Disk.{Image, Disk, GoesOn, Grew, LeavesOnly}
 use Rattle.sector_disk.specs.lemmas.Moments.{goes_on_refl, goes_on_trans, leaves_now, leaves_then, leaves_more, still_honest}
 use Rattle.root_pair.specs.Root.{HoldsRoot, root_of, IsAtRest}
 use Rattle.root_pair.specs.lemmas.Rest.{rest_leaves}
@@ -63,10 +63,10 @@ fresh_within marks p fresh = elim (cases_lt p (length marks)) [
 
 -- a stop leaves the committed root and its pages
 pub safe_saves : (store : Store) → IsSafe store → StopLeaves store (Saved store)
-safe_saves store safe picture left = record {
-  holds = subst (λ (r : List ℕ). HoldsRoot r picture) safe.root (rest_leaves store.disk.now safe.rest picture left);
+safe_saves store safe image left = record {
+  holds = subst (λ (r : List ℕ). HoldsRoot r image) safe.root (rest_leaves store.disk.now safe.rest image left);
   room = omega (arith, safe.room, left.no_shorter);
-  pages = λ p needed. page_same picture store.disk.now.contents p (λ k within. left.same k (safe.synced p needed k within));
+  pages = λ p needed. page_same image store.disk.now.contents p (λ k within. left.same k (safe.synced p needed k within));
 }
 
 -- nothing has happened
@@ -108,10 +108,10 @@ pub still_held : (old new : Store) → new.holds ≡ old.holds → (place : Hold
 still_held old new same place p held = (held.0, subst (λ (h : Holds). IsTrue (needed_by (holders_at h.of p) place)) (sym same) held.1)
 
 -- what is saved of the later store is saved of the earlier
-pub saved_before : {old new : Store} → StoreWorks old new → IsTrue old.disk.honest → (picture : Picture) → Saved new picture
-    → Saved old picture
-saved_before works honest picture saved = record {
-  holds = subst (λ (r : List ℕ). HoldsRoot r picture) works.root saved.holds;
+pub saved_before : {old new : Store} → StoreWorks old new → IsTrue old.disk.honest → (image : Image) → Saved new image
+    → Saved old image
+saved_before works honest image saved = record {
+  holds = subst (λ (r : List ℕ). HoldsRoot r image) works.root saved.holds;
   room = omega (arith, saved.room, works.same_pages);
   pages = λ p needed. saved.pages p (still_needed works p needed) ∙ works.reads honest p needed;
 }
@@ -155,13 +155,13 @@ safe_remarked old new others long fewer safe =
 
 -- work, and then a commit: a stop leaves what was saved at first, or the new root and all pages as they read at the commit
 pub commit_after : {old mid : Store} (new : Disk) (root : List ℕ) → StoreWorks old mid → GoesOn mid.disk new
-    → (IsTrue mid.disk.honest → IsSafe mid → LeavesOnly mid.disk new (λ picture. Saved mid picture ⊎ SavedAs root mid picture))
-    → IsTrue old.disk.honest → IsSafe old → LeavesOnly old.disk new (λ picture. Saved old picture ⊎ SavedAs root mid picture)
+    → (IsTrue mid.disk.honest → IsSafe mid → LeavesOnly mid.disk new (λ image. Saved mid image ⊎ SavedAs root mid image))
+    → IsTrue old.disk.honest → IsSafe old → LeavesOnly old.disk new (λ image. Saved old image ⊎ SavedAs root mid image)
 commit_after {old} {mid} new root works goes_on commit honest safe =
     leaves_then goes_on
-    (leaves_more (λ picture saved. inl saved) (works.leaves honest safe))
+    (leaves_more (λ image saved. inl saved) (works.leaves honest safe))
     (leaves_more each (commit (still_honest works.goes_on honest) (works.safe honest safe)))
   where
-    each : (picture : Picture) → Saved mid picture ⊎ SavedAs root mid picture → Saved old picture ⊎ SavedAs root mid picture
-    each picture (inl saved) = inl (saved_before works honest picture saved)
-    each picture (inr saved) = inr saved
+    each : (image : Image) → Saved mid image ⊎ SavedAs root mid image → Saved old image ⊎ SavedAs root mid image
+    each image (inl saved) = inl (saved_before works honest image saved)
+    each image (inr saved) = inr saved

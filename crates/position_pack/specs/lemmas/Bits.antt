@@ -5,15 +5,15 @@ use Rattle.position_pack.specs.Fields.{fields_of}
 use Rattle.position_pack.specs.Bits.{field_bits, bytes_of_bits}
 
 -- as many, and each number is at most the other of its place
-abbrev pub AreAtMost : List ℕ → List ℕ → Type 0
-AreAtMost [] [] = ⊤
-AreAtMost [] (x ∷ xs) = ⊥
-AreAtMost (most ∷ greatest) [] = ⊥
-AreAtMost (most ∷ greatest) (x ∷ xs) = (x ≤ most) × AreAtMost greatest xs
+abbrev pub AreFieldsAtMost : List ℕ → List ℕ → Type 0
+AreFieldsAtMost [] [] = ⊤
+AreFieldsAtMost [] (x ∷ xs) = ⊥
+AreFieldsAtMost (most ∷ greatest) [] = ⊥
+AreFieldsAtMost (most ∷ greatest) (x ∷ xs) = (x ≤ most) × AreFieldsAtMost greatest xs
 
 -- the fields are within their greatest values, and the bytes are theirs by bits
 pub record AreFields (greatest bytes fields : List ℕ) : Type 0 where
-  pub within : AreAtMost greatest fields
+  pub within : AreFieldsAtMost greatest fields
   pub bytes_are : bytes ≡ bytes_of_bits (field_bits greatest fields)
 
 -- this many pieces, at most 34 values, a vertex, a role and a place, each in the range of its type

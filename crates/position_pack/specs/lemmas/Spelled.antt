@@ -18,21 +18,21 @@ pub record AreWords (text role place vertex pieces values : List ℕ) : Type 0 w
   pub text_is : text ≡ role ++ (32 ∷ (place ++ (32 ∷ (vertex ++ (32 ∷ (pieces ++ 32 ∷ values))))))
 
 -- the text is what f writes for the number, which is allowed
-pub record IsWritten (f : ℕ → List ℕ) (Allowed : ℕ → Type 0) (text : List ℕ) (n : ℕ) : Type 0 where
+pub record IsSpelledBy (f : ℕ → List ℕ) (Allowed : ℕ → Type 0) (text : List ℕ) (n : ℕ) : Type 0 where
   pub allowed : Allowed n
   pub text_is : text ≡ f n
 
 -- the decimal of a number that is at most so much
 abbrev pub IsDecimal : ℕ → List ℕ → ℕ → Type 0
-IsDecimal most = IsWritten decimal (λ n. n ≤ most)
+IsDecimal most = IsSpelledBy decimal (λ n. n ≤ most)
 
 -- the name of a vertex of the game
 abbrev pub IsVertex : Game → List ℕ → ℕ → Type 0
-IsVertex game = IsWritten (vertex_name game) (λ k. k < length game.vertices)
+IsVertex game = IsSpelledBy (vertex_name game) (λ k. k < length game.vertices)
 
 -- the name of a piece of the game
 abbrev pub IsPiece : Game → List ℕ → ℕ → Type 0
-IsPiece game = IsWritten (piece_name game) (λ k. k < length game.pieces)
+IsPiece game = IsSpelledBy (piece_name game) (λ k. k < length game.pieces)
 
 -- the text is what f writes for each number, with commas between: this many numbers, each allowed at its place
 pub record AreWrittenWithCommas (f : ℕ → List ℕ) (Allowed : ℕ → ℕ → Type 0) (count : ℕ) (text all : List ℕ) : Type 0 where

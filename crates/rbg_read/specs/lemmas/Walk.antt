@@ -129,9 +129,9 @@ as_list None = []
 as_list (Some stretch) = stretch ∷ []
 
 -- whatever the tokens are, the stretch cuts them so
-abbrev pub Ends : Option Stretch → (List Lexeme → Option Cut) → Type 0
-Ends found cut_in = (lexemes : List Lexeme) → option_map (cut_of lexemes) found ≡ cut_in lexemes
+abbrev pub CutsSo : Option Stretch → (List Lexeme → Option Cut) → Type 0
+CutsSo found cut_in = (lexemes : List Lexeme) → option_map (cut_of lexemes) found ≡ cut_in lexemes
 
 -- whatever the tokens are, it leads to this place in them
-abbrev pub Leads : Within → (List Lexeme → Place) → Type 0
-Leads within place_in = (lexemes : List Lexeme) → within_at lexemes within ≡ place_in lexemes
+abbrev pub LeadsWithin : Within → (List Lexeme → Place) → Type 0
+LeadsWithin within place_in = (lexemes : List Lexeme) → within_at lexemes within ≡ place_in lexemes

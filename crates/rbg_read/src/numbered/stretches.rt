@@ -7,7 +7,7 @@ ghost use Rattle.rbg_text.specs.Syntax as grammar;
 ghost use Rattle.rbg_read.specs.Tokens.{tokens_of, tokens_from, cut_of};
 ghost use Rattle.rbg_read.specs.Written.{spots_of, cut_at};
 ghost use Rattle.rbg_read.specs.lemmas.Walk as walk;
-ghost use Rattle.rbg_read.specs.lemmas.Walk.{Ends, Leads, within_at, depth_of, as_list};
+ghost use Rattle.rbg_read.specs.lemmas.Walk.{CutsSo, LeadsWithin, within_at, depth_of, as_list};
 
 use crate::numbered::lexemes::Lexeme;
 use rbg_text::token::{Sign, Token};
@@ -73,7 +73,7 @@ fn put_ended(found: &mut Vec<Stretch>, action: Option<Stretch>) -> Result<(), Al
 /// The action that ends with the token at this index, or right before it.
 fn ended(within: Within, token: Token<'_>, place: usize) -> Option<Stretch>
     requires { place < usize.MAX }
-    ensures ended { Ends result (λ ls. walk.ended (within_at ls within) (token_view token.entry) (tokens_from ls place) (tokens_from ls (place + 1))) }
+    ensures ended { CutsSo result (λ ls. walk.ended (within_at ls within) (token_view token.entry) (tokens_from ls place) (tokens_from ls (place + 1))) }
     ensures within { IfSome result (λ stretch. stretch.to ≤ place + 1) }
 {
     match within {
@@ -91,7 +91,7 @@ fn ended(within: Within, token: Token<'_>, place: usize) -> Option<Stretch>
 /// The action of one token.
 fn ended_in_rules(token: Token<'_>, place: usize) -> Option<Stretch>
     requires { place < usize.MAX }
-    ensures ended { Ends result (λ ls. walk.ended_in_rules (token_view token.entry) (tokens_from ls place) (tokens_from ls (place + 1))) }
+    ensures ended { CutsSo result (λ ls. walk.ended_in_rules (token_view token.entry) (tokens_from ls place) (tokens_from ls (place + 1))) }
     ensures within { IfSome result (λ stretch. stretch.to ≤ place + 1) }
 {
     match token {
@@ -105,7 +105,7 @@ fn ended_in_rules(token: Token<'_>, place: usize) -> Option<Stretch>
 
 /// The assignment that ends right before the token at this index.
 fn ended_assignment(token: Token<'_>, from: usize, place: usize) -> Option<Stretch>
-    ensures ended { Ends result (λ ls. walk.ended_in_assignment (token_view token.entry) (tokens_from ls from) (tokens_from ls place)) }
+    ensures ended { CutsSo result (λ ls. walk.ended_in_assignment (token_view token.entry) (tokens_from ls from) (tokens_from ls place)) }
     ensures within { IfSome result (λ stretch. stretch.to ≤ place) }
 {
     match token {
@@ -117,7 +117,7 @@ fn ended_assignment(token: Token<'_>, from: usize, place: usize) -> Option<Stret
 /// The action in braces that ends with the token at this index, where no more braces are open within it.
 fn ended_in_braces(token: Token<'_>, from: usize, depth: usize, place: usize) -> Option<Stretch>
     requires { place < usize.MAX }
-    ensures ended { Ends result (λ ls. walk.ended_in_braces (token_view token.entry) (tokens_from ls from) depth (tokens_from ls (place + 1))) }
+    ensures ended { CutsSo result (λ ls. walk.ended_in_braces (token_view token.entry) (tokens_from ls from) depth (tokens_from ls (place + 1))) }
     ensures within { IfSome result (λ stretch. stretch.to ≤ place + 1) }
 {
     match token {
@@ -133,7 +133,7 @@ fn ended_in_braces(token: Token<'_>, from: usize, depth: usize, place: usize) ->
 fn next(within: Within, token: Token<'_>, place: usize) -> Within
     requires place { place < usize.MAX }
     requires depth { depth_of within < usize.MAX }
-    ensures place { Leads result (λ ls. walk.next (within_at ls within) (token_view token.entry) (tokens_from ls place) (tokens_from ls (place + 1))) }
+    ensures place { LeadsWithin result (λ ls. walk.next (within_at ls within) (token_view token.entry) (tokens_from ls place) (tokens_from ls (place + 1))) }
     ensures depth { depth_of result ≤ depth_of within + 1 }
 {
     match within {
@@ -148,7 +148,7 @@ fn next(within: Within, token: Token<'_>, place: usize) -> Within
 }
 
 fn in_section(token: Token<'_>) -> Within
-    ensures place { Leads result (λ _. walk.in_section (token_view token.entry)) }
+    ensures place { LeadsWithin result (λ _. walk.in_section (token_view token.entry)) }
     ensures depth { depth_of result ≡ 0 }
 {
     match token {
@@ -158,7 +158,7 @@ fn in_section(token: Token<'_>) -> Within
 }
 
 fn behind_hash(title: Token<'_>) -> Within
-    ensures place { Leads result (λ _. walk.behind_hash (token_view title.entry)) }
+    ensures place { LeadsWithin result (λ _. walk.behind_hash (token_view title.entry)) }
     ensures depth { depth_of result ≡ 0 }
 {
     match title {
@@ -168,7 +168,7 @@ fn behind_hash(title: Token<'_>) -> Within
 }
 
 fn in_rules(token: Token<'_>, place: usize) -> Within
-    ensures place { Leads result (λ ls. walk.in_rules (token_view token.entry) (tokens_from ls place)) }
+    ensures place { LeadsWithin result (λ ls. walk.in_rules (token_view token.entry) (tokens_from ls place)) }
     ensures depth { depth_of result ≡ 0 }
 {
     match token {
@@ -181,7 +181,7 @@ fn in_rules(token: Token<'_>, place: usize) -> Within
 }
 
 fn in_bracket(token: Token<'_>, from: usize, behind: usize) -> Within
-    ensures place { Leads result (λ ls. walk.in_bracket (token_view token.entry) (tokens_from ls from) (tokens_from ls behind)) }
+    ensures place { LeadsWithin result (λ ls. walk.in_bracket (token_view token.entry) (tokens_from ls from) (tokens_from ls behind)) }
     ensures depth { depth_of result ≡ 0 }
 {
     match token {
@@ -191,7 +191,7 @@ fn in_bracket(token: Token<'_>, from: usize, behind: usize) -> Within
 }
 
 fn in_assignment(token: Token<'_>, from: usize, behind: usize) -> Within
-    ensures place { Leads result (λ ls. walk.in_assignment (token_view token.entry) (tokens_from ls from) (tokens_from ls behind)) }
+    ensures place { LeadsWithin result (λ ls. walk.in_assignment (token_view token.entry) (tokens_from ls from) (tokens_from ls behind)) }
     ensures depth { depth_of result ≡ 0 }
 {
     match token {
@@ -203,7 +203,7 @@ fn in_assignment(token: Token<'_>, from: usize, behind: usize) -> Within
 
 fn in_braces(token: Token<'_>, from: usize, depth: usize) -> Within
     requires { depth < usize.MAX }
-    ensures place { Leads result (λ ls. walk.in_braces (token_view token.entry) (tokens_from ls from) depth) }
+    ensures place { LeadsWithin result (λ ls. walk.in_braces (token_view token.entry) (tokens_from ls from) depth) }
     ensures depth { depth_of result ≤ depth + 1 }
 {
     match token {

@@ -1,7 +1,7 @@
 -- The layouts of this program and of those before it.
 use Rattle.std.specs.Prelude.{◌≡◌, ℕ, ◌<◌, List, Option, None, Some}
 use Rattle.std.proofs.Common.{arith}
-use Rattle.sector_disk.specs.Disk.{Picture}
+use Rattle.sector_disk.specs.Disk.{Image}
 use Rattle.game_file.specs.Fields.{layout_in}
 use Rattle.game_file.specs.Kept.{Kept}
 use Rattle.earlier_layouts.specs.Held.{KeepsTable, Stores, IsOlder}
@@ -16,21 +16,21 @@ says_first root pages None bytes keeps = keeps.layout
 says_first root pages (Some kept) bytes keeps = keeps.layout
 
 -- a table of layout 1 is one before each later layout
-first_older : (layout : ℕ) → 1 < layout → (pages : ℕ) (picture : Picture) (kept : Option Kept) → Stores pages picture kept
-    → IsOlderTable layout picture
-first_older layout later pages picture kept it =
+first_older : (layout : ℕ) → 1 < layout → (pages : ℕ) (image : Image) (kept : Option Kept) → Stores pages image kept
+    → IsOlderTable layout image
+first_older layout later pages image kept it =
     let is = says_first it.root pages kept _ it.keeps in
     record { root = it.root; holds = it.holds; older = (omega (arith, is), omega (arith, is, later)) }
 
 -- layout 1, 2 and 3
 pub our_layouts : AreLayouts Stores (StoresTrees 2) IsOlder (IsOlderTable 2) (IsOlderTable 3) ⊥
 our_layouts = record {
-  first_is_first = λ picture older. older;
-  first_before = λ pages picture kept it. (
-    first_older 2 (omega arith) pages picture kept it,
-    first_older 3 (omega arith) pages picture kept it,
+  first_is_first = λ image older. older;
+  first_before = λ pages image kept it. (
+    first_older 2 (omega arith) pages image kept it,
+    first_older 3 (omega arith) pages image kept it,
   );
-  second_before = λ pages picture kept it. record {
+  second_before = λ pages image kept it. record {
     root = it.root;
     holds = it.holds;
     older = (omega (arith, it.same_layout), omega (arith, it.same_layout));

@@ -1,7 +1,7 @@
 -- The last sync, kept up event by event.
 use Rattle.std.specs.Prelude.{◌≡◌, ℕ, ◌<◌, ◌≤◌, true, List, length, take, drop, IsTrue}
 use Rattle.sector_disk.specs.declared.log.Event.{Event}
-use Rattle.sector_disk.specs.Disk.{Picture}
+use Rattle.sector_disk.specs.Disk.{Image}
 use Rattle.sector_disk.specs.Past.{undone, synced_after}
 use Rattle.sector_disk.specs.declared.log.Event.TheVariants.{Wrote, Synced, Extended}
 
@@ -12,7 +12,7 @@ pub record IsLastSyncOf (events : List Event) (last : ℕ) : Type 0 where
   pub later : (m : ℕ) → last < m → m ≤ length events → ¬ ((k : ℕ) → IsTrue (synced_after (λ j. true) (take m events) k))
 
 -- the sectors as at the last sync, where they are this now
-pub record IsAsAtSync (events : List Event) (contents sectors : Picture) : Type 0 where
+pub record IsAsAtSync (events : List Event) (contents sectors : Image) : Type 0 where
   pub last : ℕ
   pub is_last : IsLastSyncOf events last
   pub is : sectors ≡ undone (drop last events) contents

@@ -2,12 +2,12 @@
 use Rattle.std.specs.Prelude.{◌≡◌, ℕ, ◌+◌, ◌≤◌, length, IsTrue}
 use Rattle.std.proofs.Common.{refl, sym, ◌∙◌, ap, subst, arith, inl, inr}
 use Rattle.std.proofs.lemmas.Bool.{cases_lt}
-use Rattle.sector_disk.specs.Disk.{Picture, sector, Shown, Disk, Agrees, MayLeave, GoesOn, Steps, LeavesOnly, Keeps}
+use Rattle.sector_disk.specs.Disk.{Image, sector, Shown, Disk, Agrees, MayLeave, GoesOn, Steps, LeavesOnly, Keeps}
 use Rattle.sector_disk.specs.lemmas.Disk.{KeepsThroughout}
 use Rattle.sector_disk.specs.Disk.{SyncedMore, Extends, IsLonger, AgreesBelow, counting, with_failed}
 use Rattle.sector_disk.specs.Disk.{IsBetween, StopsIn, at_moment, at_present}
 
--- reads give one of the pictures that a stop may leave
+-- reads give one of the images that a stop may leave
 pub reads_left : (disk : Disk) → MayLeave disk.now disk.now.contents
 reads_left disk = record { no_shorter = disk.lasts; no_longer = omega arith; same = λ k synced. refl }
 
@@ -25,64 +25,64 @@ goes_on_trans {old} {mid} {new} first second = record {
 }
 
 -- a stop at the present moment leaves what a stop now may leave
-pub now_leaves : (disk : Disk) (k : ℕ) (picture : Picture) → k ≡ disk.clock → MayLeave (disk.was k) picture → MayLeave disk.now picture
-now_leaves disk k picture is left =
-    disk.now_allows picture (subst (λ shown. MayLeave shown picture) (ap disk.was is) left)
+pub now_leaves : (disk : Disk) (k : ℕ) (image : Image) → k ≡ disk.clock → MayLeave (disk.was k) image → MayLeave disk.now image
+now_leaves disk k image is left =
+    disk.now_allows image (subst (λ shown. MayLeave shown image) (ap disk.was is) left)
 
 -- a stop at an earlier moment leaves what it might have left then
-pub then_leaves : {old new : Disk} → GoesOn old new → (k : ℕ) (picture : Picture) → k ≤ old.clock → MayLeave (new.was k) picture
-    → MayLeave (old.was k) picture
-then_leaves {old} {new} goes_on k picture le left =
-    subst (λ shown. MayLeave shown picture) (goes_on.past k le) left
+pub then_leaves : {old new : Disk} → GoesOn old new → (k : ℕ) (image : Image) → k ≤ old.clock → MayLeave (new.was k) image
+    → MayLeave (old.was k) image
+then_leaves {old} {new} goes_on k image le left =
+    subst (λ shown. MayLeave shown image) (goes_on.past k le) left
 
 -- before the first call
-pub leaves_now : (disk : Disk) {Such : Picture → Type 0} → ((picture : Picture) → MayLeave disk.now picture → Such picture)
+pub leaves_now : (disk : Disk) {Such : Image → Type 0} → ((image : Image) → MayLeave disk.now image → Such image)
     → LeavesOnly disk disk Such
 leaves_now disk here = record {
-  each = λ k picture from to left. here picture (now_leaves disk k picture (omega (arith, from, to)) left);
+  each = λ k image from to left. here image (now_leaves disk k image (omega (arith, from, to)) left);
   present = here;
 }
 
 -- between two states
-between_leaves : {old new : Disk} {Such : Picture → Type 0} → IsBetween old new
-    → ((picture : Picture) → MayLeave old.now picture → Such picture)
-    → ((picture : Picture) → MayLeave new.now picture → Such picture)
+between_leaves : {old new : Disk} {Such : Image → Type 0} → IsBetween old new
+    → ((image : Image) → MayLeave old.now image → Such image)
+    → ((image : Image) → MayLeave new.now image → Such image)
     → LeavesOnly old new Such
 between_leaves moments before after = record {
-  each = λ k picture from to left.
-      elim (moments k picture from to left) [ inl was ↦ before picture was | inr is ↦ after picture is ];
+  each = λ k image from to left.
+      elim (moments k image from to left) [ inl was ↦ before image was | inr is ↦ after image is ];
   present = after;
 }
 
 -- where at most one moment passes
 pub one_moment : {old new : Disk} → GoesOn old new → new.clock ≤ old.clock + 1 → IsBetween old new
-one_moment {old} {new} goes_on short = λ k picture from to left. elim (cases_lt old.clock k) [
-  | inl later ↦ inr (now_leaves new k picture (omega (arith, later, to, short)) left)
-  | inr le ↦ inl (now_leaves old k picture (omega (arith, le, from)) (then_leaves goes_on k picture le left))
+one_moment {old} {new} goes_on short = λ k image from to left. elim (cases_lt old.clock k) [
+  | inl later ↦ inr (now_leaves new k image (omega (arith, later, to, short)) left)
+  | inr le ↦ inl (now_leaves old k image (omega (arith, le, from)) (then_leaves goes_on k image le left))
 ]
 
 -- one call: a stop leaves what it could leave before the call or what it may leave after it
-pub leaves_step : {old new : Disk} {Such : Picture → Type 0} → Steps old new
-    → ((picture : Picture) → MayLeave old.now picture → Such picture)
-    → ((picture : Picture) → MayLeave new.now picture → Such picture)
+pub leaves_step : {old new : Disk} {Such : Image → Type 0} → Steps old new
+    → ((image : Image) → MayLeave old.now image → Such image)
+    → ((image : Image) → MayLeave new.now image → Such image)
     → LeavesOnly old new Such
 leaves_step step before after = between_leaves step.moments before after
 
--- each stop leaves such a picture
-pub leaves_at : {old new : Disk} {Such : Picture → Type 0} {moment : ℕ} {left : Shown} → LeavesOnly old new Such
-    → StopsIn old new moment left → (picture : Picture) → MayLeave left picture → Such picture
-leaves_at leaves (at_moment k from to) picture may = leaves.each k picture from to may
-leaves_at leaves at_present picture may = leaves.present picture may
+-- each stop leaves such an image
+pub leaves_at : {old new : Disk} {Such : Image → Type 0} {moment : ℕ} {left : Shown} → LeavesOnly old new Such
+    → StopsIn old new moment left → (image : Image) → MayLeave left image → Such image
+leaves_at leaves (at_moment k from to) image may = leaves.each k image from to may
+leaves_at leaves at_present image may = leaves.present image may
 
 -- one part after another
-pub leaves_then : {old mid new : Disk} {Such : Picture → Type 0} → GoesOn mid new → LeavesOnly old mid Such → LeavesOnly mid new Such
+pub leaves_then : {old mid new : Disk} {Such : Image → Type 0} → GoesOn mid new → LeavesOnly old mid Such → LeavesOnly mid new Such
     → LeavesOnly old new Such
 leaves_then {old} {mid} {new} {Such} goes_on first second = record { each = at; present = second.present }
   where
-    at : (k : ℕ) (picture : Picture) → old.clock ≤ k → k ≤ new.clock → MayLeave (new.was k) picture → Such picture
-    at k picture from to left = elim (cases_lt mid.clock k) [
-      | inl later ↦ second.each k picture (omega (arith, later)) to left
-      | inr le ↦ first.each k picture from le (then_leaves goes_on k picture le left)
+    at : (k : ℕ) (image : Image) → old.clock ≤ k → k ≤ new.clock → MayLeave (new.was k) image → Such image
+    at k image from to left = elim (cases_lt mid.clock k) [
+      | inl later ↦ second.each k image (omega (arith, later)) to left
+      | inr le ↦ first.each k image from le (then_leaves goes_on k image le left)
     ]
 
 -- what is kept in two parts
@@ -106,34 +106,34 @@ keeps_fewer fewer keeps = record {
 -- a sync keeps all
 pub sync_keeps : {old new : Shown} (at : ℕ → Type 0) → SyncedMore old new → Keeps at old new
 sync_keeps at more = record {
-  contents = λ k here. ap (λ (p : Picture). sector p k) more.contents;
+  contents = λ k here. ap (λ (p : Image). sector p k) more.contents;
   synced = λ k here. more.synced k;
   lasting = more.lasting;
-  same_size = ap (λ (p : Picture). length p) more.contents;
+  same_size = ap (λ (p : Image). length p) more.contents;
 }
 
 -- and of another kind
-pub leaves_more : {old new : Disk} {Such More : Picture → Type 0} → ((picture : Picture) → Such picture → More picture)
+pub leaves_more : {old new : Disk} {Such More : Image → Type 0} → ((image : Image) → Such image → More image)
     → LeavesOnly old new Such → LeavesOnly old new More
 leaves_more more leaves = record {
-  each = λ k picture from to left. more picture (leaves.each k picture from to left);
-  present = λ picture left. more picture (leaves.present picture left);
+  each = λ k image from to left. more image (leaves.each k image from to left);
+  present = λ image left. more image (leaves.present image left);
 }
 
 -- what agrees with a later state agrees with an earlier one where that was kept
-pub agrees_before : {at : ℕ → Type 0} {old new : Shown} → Keeps at old new → (picture : Picture)
-    → Agrees new (λ k. at k × IsTrue (new.synced k)) picture
-    → Agrees old (λ k. at k × IsTrue (old.synced k)) picture
-agrees_before keeps picture left = record {
+pub agrees_before : {at : ℕ → Type 0} {old new : Shown} → Keeps at old new → (image : Image)
+    → Agrees new (λ k. at k × IsTrue (new.synced k)) image
+    → Agrees old (λ k. at k × IsTrue (old.synced k)) image
+agrees_before keeps image left = record {
   no_shorter = omega (arith, keeps.lasting, left.no_shorter);
   no_longer = omega (arith, left.no_longer, keeps.same_size);
   same = λ k here. left.same k (here.0, keeps.synced k here.0 here.1) ∙ keeps.contents k here.0;
 }
 
 -- what a stop leaves agrees with all that is synced
-agrees_at : (at : ℕ → Type 0) {shown : Shown} (picture : Picture) → MayLeave shown picture
-    → Agrees shown (λ k. at k × IsTrue (shown.synced k)) picture
-agrees_at at picture left = record { no_shorter = left.no_shorter; no_longer = left.no_longer; same = λ k here. left.same k here.1 }
+agrees_at : (at : ℕ → Type 0) {shown : Shown} (image : Image) → MayLeave shown image
+    → Agrees shown (λ k. at k × IsTrue (shown.synced k)) image
+agrees_at at image left = record { no_shorter = left.no_shorter; no_longer = left.no_longer; same = λ k here. left.same k here.1 }
 
 -- before the first call
 pub throughout_start : (at : ℕ → Type 0) (disk : Disk) → KeepsThroughout at disk disk
@@ -148,7 +148,7 @@ pub throughout_step : {at : ℕ → Type 0} {old new : Disk} → Steps old new �
 throughout_step {at} {old} {new} step keeps = record {
   goes_on = step.goes_on;
   keeps = keeps;
-  leaves = leaves_step step (agrees_at at) (λ picture left. agrees_before keeps picture (agrees_at at picture left));
+  leaves = leaves_step step (agrees_at at) (λ image left. agrees_before keeps image (agrees_at at image left));
 }
 
 -- one part after another
@@ -170,9 +170,9 @@ pub throughout_next : {at : ℕ → Type 0} {old mid new : Disk} → IsTrue old.
 throughout_next honest so_far step keeps = throughout_then so_far (throughout_step step (keeps (still_honest so_far.goes_on honest)))
 
 -- a call that makes the disk longer: a stop leaves what it could leave before the call or what it may leave after it
-pub leaves_extend : {sectors : ℕ} {old new : Disk} {Such : Picture → Type 0} → IsTrue old.honest → Extends sectors old new
-    → ((picture : Picture) → MayLeave old.now picture → Such picture)
-    → ((picture : Picture) → MayLeave new.now picture → Such picture)
+pub leaves_extend : {sectors : ℕ} {old new : Disk} {Such : Image → Type 0} → IsTrue old.honest → Extends sectors old new
+    → ((image : Image) → MayLeave old.now image → Such image)
+    → ((image : Image) → MayLeave new.now image → Such image)
     → LeavesOnly old new Such
 leaves_extend honest step before after = between_leaves (step.moments honest) before after
 
@@ -197,26 +197,26 @@ longer_trans first second = record {
 -- a sync loses nothing
 pub sync_longer : {old new : Shown} → SyncedMore old new → IsLonger old new
 sync_longer more = record {
-  no_shorter = omega (arith, ap (λ (p : Picture). length p) more.contents);
-  contents = λ k here. ap (λ (p : Picture). sector p k) more.contents;
+  no_shorter = omega (arith, ap (λ (p : Image). length p) more.contents);
+  contents = λ k here. ap (λ (p : Image). sector p k) more.contents;
   synced = λ k here was. more.synced k was;
   lasting = more.lasting;
 }
 
 -- what a stop leaves of a longer disk
-pub longer_leaves : {old new : Shown} → IsLonger old new → (picture : Picture) → MayLeave new picture → AgreesBelow old picture
-longer_leaves longer picture left = record {
+pub longer_leaves : {old new : Shown} → IsLonger old new → (image : Image) → MayLeave new image → AgreesBelow old image
+longer_leaves longer image left = record {
   no_shorter = omega (arith, longer.lasting, left.no_shorter);
   same = λ k here synced. left.same k (longer.synced k here synced) ∙ longer.contents k here;
 }
 
 -- and of the disk as it was
-pub left_below : {shown : Shown} (picture : Picture) → MayLeave shown picture → AgreesBelow shown picture
-left_below {shown} picture left = longer_leaves (longer_refl shown) picture left
+pub left_below : {shown : Shown} (image : Image) → MayLeave shown image → AgreesBelow shown image
+left_below {shown} image left = longer_leaves (longer_refl shown) image left
 
 -- what agrees with the longer disk agrees with the one before
-pub below_before : {old new : Shown} → IsLonger old new → (picture : Picture) → AgreesBelow new picture → AgreesBelow old picture
-below_before longer picture left = record {
+pub below_before : {old new : Shown} → IsLonger old new → (image : Image) → AgreesBelow new image → AgreesBelow old image
+below_before longer image left = record {
   no_shorter = omega (arith, longer.lasting, left.no_shorter);
   same = λ k here synced. left.same k (omega (arith, here, longer.no_shorter)) (longer.synced k here synced) ∙ longer.contents k here;
 }

@@ -5,16 +5,16 @@ use Rattle.std.proofs.lemmas.Bool.{cases_lt}
 use Rattle.std.proofs.lemmas.List.{length-replicate, take-replicate, take-append-le, drop-append-le}
 use Rattle.sector_disk.specs.declared.log.Event.{Event}
 use Rattle.sector_disk.specs.declared.log.Event.TheVariants.{Extended}
-use Rattle.sector_disk.specs.Disk.{Picture, Extends, GoesOn}
+use Rattle.sector_disk.specs.Disk.{Image, Extends, GoesOn}
 use Rattle.sector_disk.specs.Unknown.{grown, unknown_disk}
 use Rattle.sector_disk.specs.Past.{before, undone, synced_after, end_after, lasting_of, shown_at}
 
-undone-push : (events : List Event) (event : Event) (picture : Picture) → undone (events ++ event ∷ []) picture ≡ undone events (before event picture)
-undone-push [] event picture = refl
-undone-push (e ∷ events) event picture = ap (before e) (undone-push events event picture)
+undone-push : (events : List Event) (event : Event) (image : Image) → undone (events ++ event ∷ []) image ≡ undone events (before event image)
+undone-push [] event image = refl
+undone-push (e ∷ events) event image = ap (before e) (undone-push events event image)
 
 -- what was shown before is shown as before
-pub past : (events : List Event) (event : Event) (old new : Picture) → before event new ≡ old
+pub past : (events : List Event) (event : Event) (old new : Image) → before event new ≡ old
     → (k : ℕ) → k ≤ length events → shown_at (events ++ event ∷ []) new k ≡ shown_at events old k
 past events event old new back k le =
     let contents : undone (drop k (events ++ event ∷ [])) new ≡ undone (drop k events) old =

@@ -5,7 +5,7 @@ use Rattle.rbg_game.specs.Positions.{IsPositionOf}
 use Rattle.rbg_game.specs.declared.position.Position.{Position}
 use Rattle.position_pack.specs.Bytes.{bytes_of}
 use Rattle.legal_moves.specs.Listed.{ShownMove}
-use Rattle.session_lines.specs.Lines.{AreLines}
+use Rattle.session_lines.specs.Lines.{AreLinesOfMoves}
 
 -- the bytes are those of a position of the game
 abbrev pub HasPosition : Game → ShownMove → Type 0
@@ -13,4 +13,4 @@ HasPosition game move = (next : Position) × IsPositionOf game next × (move.nex
 
 -- the lines of the moves, or `ended` where there is none
 abbrev pub SaysMoves : Game → List ShownMove → List ℕ → Type 0
-SaysMoves game moves text = ((moves ≡ []) × (text ≡ codes "ended" ++ 10 ∷ [])) ⊎ ((moves ≢ []) × AreLines game moves text)
+SaysMoves game moves text = ((moves ≡ []) × (text ≡ codes "ended" ++ 10 ∷ [])) ⊎ ((moves ≢ []) × AreLinesOfMoves game moves text)

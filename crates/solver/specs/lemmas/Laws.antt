@@ -1,7 +1,7 @@
 -- What holds of every table that a solver keeps, for readers in src/laws.rt and for proofs here.
 use Rattle.std.specs.Prelude.{◌≡◌, ◌⊎◌, ◌↔◌, ℕ, List, Option, None, Some, IsTrue}
 use Rattle.std.proofs.Common.{inl, inr, subst}
-use Rattle.sector_disk.specs.Disk.{Picture, Disk, MayLeave}
+use Rattle.sector_disk.specs.Disk.{Image, Disk, MayLeave}
 use Rattle.sector_disk.specs.lemmas.Moments.{reads_left}
 use Rattle.rbg_game.specs.Games.{Game}
 use Rattle.rbg_game.specs.declared.roles.Player.{Player}
@@ -25,18 +25,18 @@ use Rattle.game_file.specs.State.{State}
 use Rattle.solver.specs.Held.{Holds, IsSound, graph_in, wide_in}
 use Rattle.solver.specs.Opened.{IsOpened}
 
--- a picture that stores a sound table holds it
-pub a_sound_table_is_held : (Stores : Layout) (picture : Picture) (kept : Option Kept) → Stores picture kept → IsSound kept
-    → Holds Stores picture kept
-a_sound_table_is_held Stores picture None stores sound = record { stores = stores; of_a_game = tt }
-a_sound_table_is_held Stores picture (Some kept) stores (game, is_read, sound) =
+-- an image that stores a sound table holds it
+pub a_sound_table_is_held : (Stores : Layout) (image : Image) (kept : Option Kept) → Stores image kept → IsSound kept
+    → Holds Stores image kept
+a_sound_table_is_held Stores image None stores sound = record { stores = stores; of_a_game = tt }
+a_sound_table_is_held Stores image (Some kept) stores (game, is_read, sound) =
     let (positions, fits) = sound_tables_fit kept.packing kept.goal game kept.table (starts_are_positions kept.text game is_read) sound in
     record { stores = stores; of_a_game = (game, record { reads = is_read; positions = positions }) }
 
 -- where a stop left the one table or the other, that is the one that is opened
 pub what_was_left_is_opened : (Stores : ℕ → Layout) (disk : Disk) (count : ℕ) (state : State) (one other : Option Kept)
     → IsOpened Stores disk count state → IsTrue disk.honest
-    → ((picture : Picture) → MayLeave disk.now picture → Holds (in_any Stores) picture one ⊎ Holds (in_any Stores) picture other) → (state.kept ≡ one)
+    → ((image : Image) → MayLeave disk.now image → Holds (in_any Stores) image one ⊎ Holds (in_any Stores) image other) → (state.kept ≡ one)
     ⊎ (state.kept ≡ other)
 what_was_left_is_opened Stores disk count state one other opened honest left = each (left disk.now.contents (reads_left disk))
   where

@@ -3,7 +3,7 @@ use Rattle.std.specs.Prelude.{◌≡◌, ◌↔◌, ℕ, ◌<◌, true, List, le
 use Rattle.retrograde.specs.declared.records.Record.{Record}
 use Rattle.retrograde.specs.Stored.{FitsState, is_expanded, is_processed, is_settled}
 
--- each record holds what one of its state may, and exactly the first ones are expanded
+-- each record is possible for its state, and exactly the first ones are expanded
 abbrev pub RecordsFit : ℕ → List Record → Type 0
 RecordsFit expanded records =
     (i : ℕ) (r : Record) → slice_get records i ≡ Some r → FitsState r.state r × ((is_expanded r.state ≡ true) ↔ (i < expanded))

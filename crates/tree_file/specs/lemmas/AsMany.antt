@@ -26,7 +26,7 @@ use Rattle.tree_table.specs.declared.tree.Tree.TheVariants.{Positions, Records, 
 use Rattle.tree_table.specs.Entries.{number_key, AreByNumber, AreEntriesOf}
 use Rattle.tree_table.specs.lemmas.Lists.{zip_long}
 use Rattle.tree_table.specs.lemmas.Numbers.{same_number}
-use Rattle.tree_file.specs.Counted.{IsBetween, AreAsMany}
+use Rattle.tree_file.specs.Counted.{IsEdgeBelow, AreAsMany}
 use Rattle.tree_file.specs.lemmas.Counts.{listed, distinct, among, there, keys_tell, same_key, length-listed}
 
 abbrev eq : List ℕ → List ℕ → Bool
@@ -132,7 +132,7 @@ module _ (sizes : Sizes) (entries : Tree → List Item) (table : Stored (List �
         by_number Order IsNumber table.order sizes.counts.settled (omega (arith, settled, known)) spelled.settled
         (λ i low. (get_or table.order i 0, slice_get-get_or table.order i 0 low))
         spelled.order;
-    between = all_found (IsBetween sizes.counts.known) (entries Edges) (ascend Edges) (λ key value found.
+    between = all_found (IsEdgeBelow sizes.counts.known) (entries Edges) (ascend Edges) (λ key value found.
         let (i, p, is, has) = spelled.edges.only key value found in
         let both = spelled.edges.between i p has in
         record { to = i; from = p; is = is; to_known = both.0; from_known = both.1 });

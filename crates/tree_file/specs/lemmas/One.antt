@@ -15,7 +15,7 @@ use Rattle.tree_table.specs.declared.tree.Tree.{Tree}
 use Rattle.tree_table.specs.declared.tree.Tree.TheVariants.{Positions, Records, Edges, Order}
 use Rattle.tree_table.specs.Forest.{IsTreeOf}
 use Rattle.tree_table.specs.Trees.{root_of}
-use Rattle.tree_file.specs.Counted.{IsBetween}
+use Rattle.tree_file.specs.Counted.{IsEdgeBelow}
 
 -- this many entries
 abbrev pub CountIs : ℕ → List Item → Type 0
@@ -23,7 +23,7 @@ CountIs wanted es = length es ≡ wanted
 
 -- this many edges, each between numbers below this one
 abbrev pub EdgesAre : ℕ → ℕ → List Item → Type 0
-EdgesAre wanted known es = (length es ≡ wanted) × All (IsBetween known) es
+EdgesAre wanted known es = (length es ≡ wanted) × All (IsEdgeBelow known) es
 
 -- of this tree as much as these sizes tell
 abbrev pub IsAsMany : Sizes → Tree → List Item → Type 0

@@ -31,7 +31,7 @@ abbrev pub is_among : ℕ → Option ℕ → Bool
 is_among count None = false
 is_among count (Some k) = nat_lt k count
 
--- the record holds what one of its state may hold, and its state is that of a number that has this place in the settled order, or none
+-- the record is possible for its state, and its state agrees with this place in the settled order, or with none
 pub record FitsPlace (counts : Counts) (i : ℕ) (place : Option ℕ) (r : Record) : Type 0 where
   pub state : FitsState r.state r
   pub expanded : is_expanded r.state ≡ nat_lt i counts.expanded
@@ -55,14 +55,14 @@ has_done Nowhere = false
 has_done Waiting = false
 has_done Processed = true
 
--- the record holds what one of its state may hold, and its state is that of a number of which the settled order says this
+-- the record is possible for its state, and its state agrees with what the settled order says of its number
 pub record FitsPlaced (counts : Counts) (i : ℕ) (placed : Placed) (r : Record) : Type 0 where
   pub state : FitsState r.state r
   pub expanded : is_expanded r.state ≡ nat_lt i counts.expanded
   pub settled : is_settled r.state ≡ has_place placed
   pub processed : is_processed r.state ≡ has_done placed
 
--- the number has a position, at which it stands, and a record that fits this place
+-- the number has a position that maps back to it, and a record that fits this place
 pub record IsRightAt (sizes : Sizes) (entries : Tree → List Item) (i : ℕ) (place : Option ℕ) : Type 0 where
   pub position : List ℕ
   pub kept : Record
@@ -70,7 +70,7 @@ pub record IsRightAt (sizes : Sizes) (entries : Tree → List Item) (i : ℕ) (p
   pub back : IsNumberAt (entries Positions) position i
   pub fits : FitsPlace sizes.counts i place kept
 
--- the number has a position, at which it stands, and a record that fits what the settled order says of it
+-- the number has a position that maps back to it, and a record that fits what the settled order says of it
 pub record IsRightPlaced (sizes : Sizes) (entries : Tree → List Item) (i : ℕ) (placed : Placed) : Type 0 where
   pub position : List ℕ
   pub kept : Record

@@ -4,7 +4,7 @@ use Rattle.std.proofs.Common.{refl, sym, ◌∙◌, ap, subst, arith}
 use Rattle.std.proofs.lemmas.Option.{same_Some}
 use mathlib.Core.Logic.{∥∥₁_elim}
 use denote.Struct.Props.{props}
-use Rattle.sector_disk.specs.Disk.{Picture}
+use Rattle.sector_disk.specs.Disk.{Image}
 use Rattle.sector_disk.specs.lemmas.Moments.{leaves_more, still_honest}
 use Rattle.page_store.specs.declared.marks.Mark.{Mark}
 use Rattle.page_store.specs.declared.marks.Mark.TheVariants.{Committed, Waiting, Fresh, Released, Free, Past}
@@ -145,9 +145,9 @@ pub works_leaves : {layout : ℕ} (was : File) (now : Store) → IsWholeFile lay
     → LeavesTable (StoresTrees layout (length was.work.store.marks)) was.work.store.disk now.disk (kept_of was)
 works_leaves {layout} was now whole works honest is_open =
     let store = was.work.store in
-    leaves_more (λ picture saved. spells_stores_trees store.root layout (length store.marks) (kept_of was) picture whole.of_layout whole.says
+    leaves_more (λ image saved. spells_stores_trees store.root layout (length store.marks) (kept_of was) image whole.of_layout whole.says
     whole.room whole.sound.few
-    (saved_spells store (kept_stands store (kept_of was) (whole.kept honest)) picture saved)) (works.leaves honest
+    (saved_spells store (kept_stands store (kept_of was) (whole.kept honest)) image saved)) (works.leaves honest
     (whole.sound.safe honest is_open))
 
 -- it is in a later state
@@ -253,9 +253,9 @@ fails_for_later layout old mid new fault holds whole fails same =
     as_cause OutOfMemory cause = cause
     as_cause Closed cause = cause
 
--- a picture of an earlier layout stores no table of this one
-pub older_none : (layout pages : ℕ) (picture : Picture) (kept : Option Kept) → IsOlderTable layout picture → StoresTrees layout pages picture kept
+-- an image of an earlier layout stores no table of this one
+pub older_none : (layout pages : ℕ) (image : Image) (kept : Option Kept) → IsOlderTable layout image → StoresTrees layout pages image kept
     → ⊥
-older_none layout pages picture kept older stores =
+older_none layout pages image kept older stores =
     let same : older.root ≡ stores.root = sym older.holds.is ∙ stores.holds.is in
     omega (arith, older.older.1, ap layout_in same, stores.same_layout)

@@ -1,7 +1,7 @@
 -- What pages hold they hold wherever their bytes are the same, below each greater capacity, and after a commit.
 use Rattle.std.specs.Prelude.{◌≡◌, ◌⊎◌, ℕ, ◌≤◌, true, List, length, Option, None, Some, IsTrue}
 use Rattle.std.proofs.Common.{inl, inr, refl, sym, ap, subst, arith}
-use Rattle.sector_disk.specs.Disk.{Picture}
+use Rattle.sector_disk.specs.Disk.{Image}
 use Rattle.sector_disk.specs.lemmas.Moments.{leaves_more}
 use Rattle.page_store.specs.declared.marks.Mark.{Mark}
 use Rattle.page_store.specs.declared.marks.Mark.TheVariants.{Committed, Waiting, Fresh, Released, Free, Past}
@@ -109,10 +109,10 @@ keeps_in_more_trees root fewer more (Some kept) bytes le it =
       };
     }
 
--- a picture with this root whose pages spell this stores it
-pub spells_stores_trees : (root : List ℕ) (layout c : ℕ) (kept : Option Kept) (picture : Picture) → layout_in root ≡ layout → SaysPages root c
-    → 16 ≤ c → c ≤ 1048576 → Spells root c (KeepsTrees root c kept) picture → StoresTrees layout c picture kept
-spells_stores_trees root layout c kept picture same says enough few it = record {
+-- an image with this root whose pages spell this stores it
+pub spells_stores_trees : (root : List ℕ) (layout c : ℕ) (kept : Option Kept) (image : Image) → layout_in root ≡ layout → SaysPages root c
+    → 16 ≤ c → c ≤ 1048576 → Spells root c (KeepsTrees root c kept) image → StoresTrees layout c image kept
+spells_stores_trees root layout c kept image same says enough few it = record {
   root = root;
   holds = it.holds;
   same_layout = same;
@@ -185,9 +185,9 @@ works_keeps old new kept honest works it = record {
 pub kept_stays : (store : Store) (kept : Option Kept) → SaysPages store.root (length store.marks) → 16 ≤ length store.marks
     → length store.marks ≤ 1048576 → IsKeptInTrees store kept → IsSafe store
     → LeavesNow (StoresTrees (layout_in store.root) (length store.marks)) store.disk kept
-kept_stays store kept says enough few it safe picture left =
-    spells_stores_trees store.root (layout_in store.root) (length store.marks) kept picture refl says enough few
-    (stop_leaves store (kept_stands store kept it) safe picture left)
+kept_stays store kept says enough few it safe image left =
+    spells_stores_trees store.root (layout_in store.root) (length store.marks) kept image refl says enough few
+    (stop_leaves store (kept_stands store kept it) safe image left)
 
 calm_held : (m : Mark) → IsTrue (rests m) → needs m ≡ true → m ≡ Committed
 calm_held Committed calm needed = refl
@@ -270,9 +270,9 @@ module _ (root : List ℕ) (slot : TreeSlot) (text : List ℕ) (kind : PackingKi
 
     pub stop_stores : LeavesEither (StoresTrees (layout_in begun.root) (length begun.marks)) begun.disk new.disk was (Some (kept_as text kind goal table))
     stop_stores =
-        leaves_more (λ picture left. elim left [
-          | inl old ↦ inl (spells_stores_trees begun.root (layout_in begun.root) (length begun.marks) was picture refl said enough few old)
-          | inr now ↦ inr (spells_stores_trees root (layout_in begun.root) (length begun.marks) (Some (kept_as text kind goal table)) picture same
+        leaves_more (λ image left. elim left [
+          | inl old ↦ inl (spells_stores_trees begun.root (layout_in begun.root) (length begun.marks) was image refl said enough few old)
+          | inr now ↦ inr (spells_stores_trees root (layout_in begun.root) (length begun.marks) (Some (kept_as text kind goal table)) image same
               says enough few now)
         ]) carried.stop
 
@@ -305,5 +305,5 @@ module _ (root : List ℕ) (slot : TreeSlot) (text : List ℕ) (kind : PackingKi
 
     pub unchanged_stop : IsUnchanged store new → LeavesTable (StoresTrees (layout_in begun.root) (length begun.marks)) begun.disk new.disk was
     unchanged_stop unchanged =
-        leaves_more (λ picture left. spells_stores_trees begun.root (layout_in begun.root) (length begun.marks) was picture refl said enough few left)
+        leaves_more (λ image left. spells_stores_trees begun.root (layout_in begun.root) (length begun.marks) was image refl said enough few left)
         (carried.left_stop unchanged)

@@ -1,7 +1,7 @@
--- A picture of the disk stores one table at most, of one layout.
+-- An image of the disk stores one table at most, of one layout.
 use Rattle.std.specs.Prelude.{◌≡◌, ℕ, ◌+◌, ◌≤◌, List, Option, None, Some}
 use Rattle.std.proofs.Common.{refl, sym, ◌∙◌, ap, subst, arith}
-use Rattle.sector_disk.specs.Disk.{Picture}
+use Rattle.sector_disk.specs.Disk.{Image}
 use Rattle.page_store.specs.Page.{page}
 use Rattle.page_chain.specs.lemmas.EveryChain.{a_chain_has_one_content}
 use Rattle.game_file.specs.Fields.{layout_in, capacity_in, first_in}
@@ -37,25 +37,25 @@ a_root_keeps_one_tree_table root capacity (Some k) (Some l) bytes a b =
     let goals : k.goal ≡ l.goal = sym a.keeps.slot.goal ∙ b.keeps.slot.goal in
     λ i. Some (record { text = texts.1 i; packing = packings i; goal = goals i; table = tables i })
 
--- a picture has one root
-one_root : {layout also m n : ℕ} {picture : Picture} {one other : Option Kept} (a : StoresTrees layout m picture one)
-    (b : StoresTrees also n picture other) → b.root ≡ a.root
+-- an image has one root
+one_root : {layout also m n : ℕ} {image : Image} {one other : Option Kept} (a : StoresTrees layout m image one)
+    (b : StoresTrees also n image other) → b.root ≡ a.root
 one_root a b = sym b.holds.is ∙ a.holds.is
 
--- a picture of the disk stores one table at most, of one layout
-pub a_picture_stores_one_tree_table : (layout also m n : ℕ) (picture : Picture) (one other : Option Kept) → StoresTrees layout m picture one
-    → StoresTrees also n picture other → (layout ≡ also) × (one ≡ other)
-a_picture_stores_one_tree_table layout also m n picture one other a b =
+-- an image of the disk stores one table at most, of one layout
+pub an_image_stores_one_tree_table : (layout also m n : ℕ) (image : Image) (one other : Option Kept) → StoresTrees layout m image one
+    → StoresTrees also n image other → (layout ≡ also) × (one ≡ other)
+an_image_stores_one_tree_table layout also m n image one other a b =
     let same : b.root ≡ a.root = one_root a b in (
       sym a.same_layout ∙ ap layout_in (sym same) ∙ b.same_layout,
-      a_root_keeps_one_tree_table a.root (m + n) one other (page picture)
-          (keeps_in_more_trees a.root m (m + n) one (page picture) (omega arith) a.keeps)
-          (keeps_in_more_trees a.root n (m + n) other (page picture) (omega arith)
-          (subst (λ (root : List ℕ). KeepsTrees root n other (page picture)) same b.keeps)),
+      a_root_keeps_one_tree_table a.root (m + n) one other (page image)
+          (keeps_in_more_trees a.root m (m + n) one (page image) (omega arith) a.keeps)
+          (keeps_in_more_trees a.root n (m + n) other (page image) (omega arith)
+          (subst (λ (root : List ℕ). KeepsTrees root n other (page image)) same b.keeps)),
     )
 
 -- from layout 3 on it stores the table in one number of pages
-pub a_picture_says_its_pages : (layout m n : ℕ) (picture : Picture) (one other : Option Kept) → 3 ≤ layout → StoresTrees layout m picture one
-    → StoresTrees layout n picture other → m ≡ n
-a_picture_says_its_pages layout m n picture one other late a b =
+pub an_image_says_its_pages : (layout m n : ℕ) (image : Image) (one other : Option Kept) → 3 ≤ layout → StoresTrees layout m image one
+    → StoresTrees layout n image other → m ≡ n
+an_image_says_its_pages layout m n image one other late a b =
     sym (a.says (omega (arith, late, a.same_layout))) ∙ ap capacity_in (sym (one_root a b)) ∙ b.says (omega (arith, late, b.same_layout))

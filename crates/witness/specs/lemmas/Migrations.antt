@@ -1,6 +1,6 @@
 -- What is known of a disk in the course of migrations of a table of the small game.
 use Rattle.std.specs.Prelude.{◌⊎◌, ℕ, [], Option, IsTrue}
-use Rattle.sector_disk.specs.Disk.{Picture, Shown, Disk, MayLeave}
+use Rattle.sector_disk.specs.Disk.{Image, Shown, Disk, MayLeave}
 use Rattle.game_file.specs.Kept.{Kept, Layout, in_any}
 use Rattle.earlier_layouts.specs.Held.{Stores}
 use Rattle.tree_table.specs.Held.{StoresTrees}
@@ -16,7 +16,7 @@ pub record IsLeftFinished (Layouts : ℕ → Layout) (disk : Disk) : Type 0 wher
   pub kept : Option Kept
   pub sound : IsSound kept
   pub finished : IsItFinished kept
-  pub leaves : (picture : Picture) → MayLeave disk.now picture → in_any Layouts picture kept
+  pub leaves : (image : Image) → MayLeave disk.now image → in_any Layouts image kept
 
 -- the layouts before today's
 abbrev pub EarlierLayouts : ℕ → Layout
@@ -31,7 +31,7 @@ pub record IsInMigrations (disk : Disk) : Type 0 where
   pub finished : IsItFinished kept
   pub before : Shown
   pub going : AreMigrations EarlierLayouts (StoresTrees 3) kept before
-  pub as_left : (picture : Picture) → MayLeave disk.now picture → MayLeave before picture
+  pub as_left : (image : Image) → MayLeave disk.now image → MayLeave before image
 
 -- a migration has begun with the one disk, and the other is what it left, whatever it answered
 abbrev pub WasBegun : (ℕ → Layout) → (ℕ → Layout) → Disk → ℕ → Disk → ℕ → Type 0

@@ -3,7 +3,7 @@ use Rattle.retrograde.specs.declared.records.Counts.{Counts}
 use Rattle.retrograde.specs.Stored.{Stored, IsTable, view_of}
 use Rattle.retrograde.proofs.Additions.{push_before}
 use Rattle.retrograde.proofs.Finished.{is_some_at}
-use Rattle.best_line.specs.Lines.{IsBestStep, IsLineTo, HasNoStep, ComesTo}
+use Rattle.best_line.specs.Lines.{IsBestStep, IsLineTo, HasNoStep, LineComesTo}
 use Rattle.table.proofs.Exits.{passed_on}
 use Rattle.best_line.proofs.Exits.{line_of_memory, of_table_after}
 use Rattle.best_line.proofs.LineLemmas.{line_value, line_push, line_done}
@@ -39,7 +39,7 @@ returns-in_err-at-clause-err g c =
           let view = view_of (g.T.Table.stored c.args.table.now) in
           let left = c.args.distance - c.loop-step.step - 1 in
           let one : c.args.distance - c.loop-step.step ≡ suc (c.args.distance - c.loop-step.step - 1) = omega (arith, c.loop-step-test.true) in
-          let comes : ComesTo graph view c.args.number c.args.winner c.loop-step.at (suc left) = record {
+          let comes : LineComesTo graph view c.args.number c.args.winner c.loop-step.at (suc left) = record {
             distance = c.args.distance;
             value = value;
             numbers = c.loop-step.numbers.items;

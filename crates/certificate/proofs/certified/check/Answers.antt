@@ -3,8 +3,8 @@ use Rattle.std.specs.Prelude.{option_map}
 use Rattle.rbg_game.specs.Goals.{points_of}
 use Rattle.rbg_game.specs.Meaning.{game_of}
 use Rattle.position_pack.specs.declared.kind.PackingKind.TheVariants.{Bits}
-use Rattle.certificate.specs.Refusals.{IsRefused}
-use Rattle.certificate.specs.Refusals.{IsRefused as cause}
+use Rattle.certificate.specs.Refusals.{IsCertificateRefused}
+use Rattle.certificate.specs.Refusals.{IsCertificateRefused as cause}
 use Rattle.certificate.proofs.FaultLemmas.{refused_for_lists, refused_for_text}
 use Rattle.certificate.proofs.ListLoops.{passed_on}
 use Rattle.certificate.proofs.PlayLemmas.{so_down}
@@ -12,13 +12,13 @@ use Rattle.certificate.proofs.certified.check.Goals as goal
 
 pub returns-then-certificate-gt-MAX_CERTIFICATE_BYTES-clause-refused : goal.returns-then-certificate-gt-MAX_CERTIFICATE_BYTES-clause-refused
 returns-then-certificate-gt-MAX_CERTIFICATE_BYTES-clause-refused c =
-    subst (IsRefused c.args.certificate.now (option_map (λ (b : Bor (List ℕ)). b.now) c.args.text)) (sym c.at.ensures) (cause.too_long (omega arith))
+    subst (IsCertificateRefused c.args.certificate.now (option_map (λ (b : Bor (List ℕ)). b.now) c.args.text)) (sym c.at.ensures) (cause.too_long (omega arith))
 
 pub returns-in_err-head-clause-refused : goal.returns-in_err-head-clause-refused
 returns-in_err-head-clause-refused c =
     let few : length c.args.certificate.now < 2 ^ 32 = omega arith in
     passed_on _ c.from_residual.result _ c.from_residual.ensures
-    (subst (IsRefused c.args.certificate.now (option_map (λ (b : Bor (List ℕ)). b.now) c.args.text)) (sym c.in_err-head.ensures.fault)
+    (subst (IsCertificateRefused c.args.certificate.now (option_map (λ (b : Bor (List ℕ)). b.now) c.args.text)) (sym c.in_err-head.ensures.fault)
     (cause.no_beginning (c.in_err-head.ensures.none few)))
 
 pub returns-in_err-game-clause-refused : goal.returns-in_err-game-clause-refused
@@ -35,7 +35,7 @@ returns-in_err-game-clause-refused c =
 
 pub returns-then-not-is_given-clause-refused : goal.returns-then-not-is_given-clause-refused
 returns-then-not-is_given-clause-refused c =
-    subst (IsRefused c.args.certificate.now (option_map (λ (b : Bor (List ℕ)). b.now) c.args.text)) (sym c.at-then-not-is_given.ensures)
+    subst (IsCertificateRefused c.args.certificate.now (option_map (λ (b : Bor (List ℕ)). b.now) c.args.text)) (sym c.at-then-not-is_given.ensures)
     (cause.other_game (record {
       goal = points_of c.in_ok-head.head.goal;
       text = c.in_ok-head.head.text.now;

@@ -1,23 +1,23 @@
 use Rattle.std.proofs.Common.{◌≡◌, ◌↔◌, true, false, refl, ℕ, List, arith, subst}
 use Rattle.arrayvec.specs.ArrayVec.{ArrayVec}
-use Rattle.certificate.specs.Lists.{Stands}
+use Rattle.certificate.specs.Lists.{HasRankedLine}
 use Rattle.certificate.specs.Strategies.{RanksFrom}
 use Rattle.certificate.proofs.ListLoops.{each_more, not_each}
 use Rattle.certificate.proofs.going.each_from.Goals as goal
 
 pub loop-next-preserved : goal.loop-next-preserved
 loop-next-preserved c =
-    each_more (λ (p : ArrayVec ℕ). RanksFrom (Stands c.args.list.now) c.args.rank p.items) c.args.found.now c.loop-next.next-index c.next-item.result
+    each_more (λ (p : ArrayVec ℕ). RanksFrom (HasRankedLine c.args.list.now) c.args.rank p.items) c.args.found.now c.loop-next.next-index c.next-item.result
     c.loop-next.invariant c.loop-next-test.true c.next-item.is
-    (subst (λ (y : List ℕ). RanksFrom (Stands c.args.list.now) c.args.rank y) c.deref.ensures.0 (c.if-not-ranks_from.ensures.0 refl))
+    (subst (λ (y : List ℕ). RanksFrom (HasRankedLine c.args.list.now) c.args.rank y) c.deref.ensures.0 (c.if-not-ranks_from.ensures.0 refl))
 
 pub returns-then-not-ranks_from : goal.returns-then-not-ranks_from
 returns-then-not-ranks_from c =
-    let here = subst (λ (y : List ℕ). (false ≡ true) ↔ RanksFrom (Stands c.args.list.now) c.args.rank y) c.deref.ensures.0 c.if-not-ranks_from.ensures in
-    let bad : ¬ RanksFrom (Stands c.args.list.now) c.args.rank c.next-item.result.items = λ good. let yes = here.1 good in cc in (
+    let here = subst (λ (y : List ℕ). (false ≡ true) ↔ RanksFrom (HasRankedLine c.args.list.now) c.args.rank y) c.deref.ensures.0 c.if-not-ranks_from.ensures in
+    let bad : ¬ RanksFrom (HasRankedLine c.args.list.now) c.args.rank c.next-item.result.items = λ good. let yes = here.1 good in cc in (
       λ is. cc,
       λ each. absurd (not_each (λ (p : ArrayVec ℕ). RanksFrom
-          (Stands c.args.list.now) c.args.rank p.items) c.args.found.now c.loop-next.next-index c.next-item.result
+          (HasRankedLine c.args.list.now) c.args.rank p.items) c.args.found.now c.loop-next.next-index c.next-item.result
           c.loop-next-test.true c.next-item.is bad each),
     )
 

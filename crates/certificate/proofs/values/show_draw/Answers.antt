@@ -3,7 +3,7 @@ use Rattle.rbg_game.specs.declared.roles.Player.TheVariants.{First, Second}
 use Rattle.retrograde.specs.Values.{Drawn, WinsWithin}
 use Rattle.certificate.specs.Lists.{Has, lines_in}
 use Rattle.certificate.specs.Right.{AreShown}
-use Rattle.certificate.specs.Shown.{AreNarrow, IsList, IsUnshown, Shows}
+use Rattle.certificate.specs.Shown.{AreNarrow, IsList, IsUnshown, ShowsRank}
 use Rattle.certificate.specs.Shown.{IsUnshown as cause}
 use Rattle.certificate.specs.Strategies.{RanksFrom}
 use Rattle.certificate.specs.declared.claim.Claimed.TheVariants as claimed
@@ -39,7 +39,7 @@ returns-clause-so g c =
     let first = lines_in c.args.first.now.list.items in
     let second = lines_in c.args.second.now.list.items in
     let x = c.args.at.now.items in
-    on_ok c.has_shown-2.result (Shows Never second x 0) (Drawn graph x)
+    on_ok c.has_shown-2.result (ShowsRank Never second x 0) (Drawn graph x)
     (λ here w. elim w as (λ v. (n : ℕ) → WinsWithin graph v n x → ⊥) [
       | First ↦ λ n wins. safe_is_never_won graph First (RanksFrom (Has first) NEVER)
           (safe_of graph First first c.in_ok-all_follow.ensures.so) n x c.in_ok-has_shown.ensures.so wins
@@ -51,7 +51,7 @@ returns-clause-so g c =
 pub returns-clause-fault : goal.returns-clause-fault
 returns-clause-fault g c =
     let second = lines_in c.args.second.now.list.items in
-    if_both_err c.has_shown-2.result (λ refusal. refusal.fault ≡ NotShown) (λ _. ¬ Shows Never second c.args.at.now.items 0)
+    if_both_err c.has_shown-2.result (λ refusal. refusal.fault ≡ NotShown) (λ _. ¬ ShowsRank Never second c.args.at.now.items 0)
     (λ refusal. (IsUnshown (g.M.GameGraph.graph c.args.source.now)
     (g.M.GameGraph.is_wide c.args.source.now) claimed.Drawn c.args.at.now.items (lines_in c.args.first.now.list.items)
     (lines_in c.args.second.now.list.items)) refusal.fault)
@@ -67,7 +67,7 @@ returns-clause-shown g c =
     let first = lines_in c.args.first.now.list.items in
     let second = lines_in c.args.second.now.list.items in
     let x = c.args.at.now.items in
-    on_ok c.has_shown-2.result (Shows Never second x 0) (AreShown graph claimed.Drawn x first second)
+    on_ok c.has_shown-2.result (ShowsRank Never second x 0) (AreShown graph claimed.Drawn x first second)
     (λ here. (
       (safe_of graph First first c.in_ok-all_follow.ensures.so, c.in_ok-has_shown.ensures.so),
       (safe_of graph Second second c.in_ok-all_follow-2.ensures.so, here),
@@ -79,5 +79,5 @@ returns-clause-narrow g c =
     let Wide = g.M.GameGraph.is_wide c.args.source.now in
     let first = lines_in c.args.first.now.list.items in
     let second = lines_in c.args.second.now.list.items in
-    on_ok c.has_shown-2.result (Shows Never second c.args.at.now.items 0) (AreNarrow Wide claimed.Drawn first second)
+    on_ok c.has_shown-2.result (ShowsRank Never second c.args.at.now.items 0) (AreNarrow Wide claimed.Drawn first second)
     (λ here. (c.in_ok-all_follow.ensures.narrow, c.in_ok-all_follow-2.ensures.narrow)) c.has_shown-2.ensures.so

@@ -2,7 +2,7 @@ use Rattle.std.proofs.Common.{◌≡◌, sym, subst}
 use Rattle.retrograde.specs.Values.{WonIn}
 use Rattle.certificate.specs.Lists.{Has, lines_in}
 use Rattle.certificate.specs.Right.{AreShown}
-use Rattle.certificate.specs.Shown.{AreNarrow, IsList, IsUnshown, Shows}
+use Rattle.certificate.specs.Shown.{AreNarrow, IsList, IsUnshown, ShowsRank}
 use Rattle.certificate.specs.Shown.{IsUnshown as cause}
 use Rattle.certificate.specs.declared.claim.Claimed.TheVariants as claimed
 use Rattle.certificate.specs.declared.fault.CertificateFault.TheVariants.{NotShown}
@@ -35,7 +35,7 @@ returns-clause-so g c =
     let graph = g.M.GameGraph.graph c.args.source.now in
     let most = lines_in c.args.most.now.list.items in
     let least = lines_in c.args.least.now.list.items in
-    on_ok c.has_shown-2.result (Shows AtLeast least c.args.at.now.items c.args.moves) (WonIn graph c.args.player c.args.moves c.args.at.now.items)
+    on_ok c.has_shown-2.result (ShowsRank AtLeast least c.args.at.now.items c.args.moves) (WonIn graph c.args.player c.args.moves c.args.at.now.items)
     (λ held. won_by_both graph c.args.player (Has most) (Has least) (strategy_of graph c.args.player most c.in_ok-all_follow.ensures.so)
     (delay_of graph c.args.player least c.in_ok-all_follow-2.ensures.so) c.args.moves c.args.at.now.items c.in_ok-has_shown.ensures.so held)
     c.has_shown-2.ensures.so
@@ -43,7 +43,7 @@ returns-clause-so g c =
 pub returns-clause-fault : goal.returns-clause-fault
 returns-clause-fault g c =
     let least = lines_in c.args.least.now.list.items in
-    if_both_err c.has_shown-2.result (λ refusal. refusal.fault ≡ NotShown) (λ _. ¬ Shows AtLeast least c.args.at.now.items c.args.moves)
+    if_both_err c.has_shown-2.result (λ refusal. refusal.fault ≡ NotShown) (λ _. ¬ ShowsRank AtLeast least c.args.at.now.items c.args.moves)
     (λ refusal. (IsUnshown (g.M.GameGraph.graph c.args.source.now) (g.M.GameGraph.is_wide c.args.source.now)
     (claimed.Won c.args.player c.args.moves) c.args.at.now.items (lines_in c.args.most.now.list.items)
     (lines_in c.args.least.now.list.items)) refusal.fault)
@@ -58,7 +58,7 @@ returns-clause-shown g c =
     let most = lines_in c.args.most.now.list.items in
     let least = lines_in c.args.least.now.list.items in
     let x = c.args.at.now.items in
-    on_ok c.has_shown-2.result (Shows AtLeast least x c.args.moves) (AreShown graph (claimed.Won c.args.player c.args.moves) x most least)
+    on_ok c.has_shown-2.result (ShowsRank AtLeast least x c.args.moves) (AreShown graph (claimed.Won c.args.player c.args.moves) x most least)
     (λ held. (
       (strategy_of graph c.args.player most c.in_ok-all_follow.ensures.so, c.in_ok-has_shown.ensures.so),
       (delay_of graph c.args.player least c.in_ok-all_follow-2.ensures.so, held),
@@ -70,5 +70,5 @@ returns-clause-narrow g c =
     let Wide = g.M.GameGraph.is_wide c.args.source.now in
     let most = lines_in c.args.most.now.list.items in
     let least = lines_in c.args.least.now.list.items in
-    on_ok c.has_shown-2.result (Shows AtLeast least c.args.at.now.items c.args.moves) (AreNarrow Wide (claimed.Won c.args.player c.args.moves) most least)
+    on_ok c.has_shown-2.result (ShowsRank AtLeast least c.args.at.now.items c.args.moves) (AreNarrow Wide (claimed.Won c.args.player c.args.moves) most least)
     (λ held. (c.in_ok-all_follow.ensures.narrow, c.in_ok-all_follow-2.ensures.narrow)) c.has_shown-2.ensures.so

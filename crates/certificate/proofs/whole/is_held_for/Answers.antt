@@ -1,5 +1,5 @@
 use Rattle.std.proofs.Common.{◌≡◌, ◌↔◌, true, suc, ℕ, ◌-◌, Bool, subst, arith}
-use Rattle.certificate.specs.Lists.{Stands}
+use Rattle.certificate.specs.Lists.{HasRankedLine}
 use Rattle.certificate.specs.Strategies.{IsHeld, IsHeldFor, RanksFrom}
 use Rattle.certificate.proofs.ListLoops.{if_ok}
 use Rattle.certificate.proofs.whole.is_held_for.Goals as goal
@@ -7,7 +7,7 @@ use Rattle.certificate.proofs.whole.is_held_for.Goals as goal
 pub returns-clause-is : goal.returns-clause-is
 returns-clause-is g c =
     let graph = g.M.GameGraph.graph c.args.source.now in
-    let Ranks = Stands c.args.list.now in
+    let Ranks = HasRankedLine c.args.list.now in
     let less = c.args.rank - 1 in
     let one_more : suc less ≡ c.args.rank = omega arith in
     if_ok c.is_held.result

@@ -5,7 +5,7 @@ use Rattle.headline.specs.lemmas.Migrations.{one_of_all, migrations_leave, migra
 use Rattle.headline.proofs.laws.stopped_migrations_go_on.Goals as goal
 
 pub returns-clause-leaves : goal.returns-clause-leaves
-returns-clause-leaves c = λ kept left picture are. migrations_leave (EitherLayout Stores (StoresTrees 2)) (StoresTrees 3) one_of_all kept are picture
+returns-clause-leaves c = λ kept left image are. migrations_leave (EitherLayout Stores (StoresTrees 2)) (StoresTrees 3) one_of_all kept are image
 
 pub returns-clause-migrated : goal.returns-clause-migrated
 returns-clause-migrated c = λ kept before disk back count now. migrated_goes_on (EitherLayout Stores (StoresTrees 2)) (StoresTrees 3) one_of_all kept

@@ -1,9 +1,9 @@
 use Rattle.std.proofs.Common.{rules, inl, inr}
-use Rattle.session_lines.specs.Parts.{IsWritten}
+use Rattle.session_lines.specs.Parts.{IsTextWritten}
 use Rattle.in_process.proofs.texts.rbg_actions.Goals as goal
 
 pub returns : goal.returns
 returns c = elim c.actions_to-status.ensures [
-  | IsWritten.whole written is more ↦ inr (written, is, search rules)
-  | IsWritten.part own written is more four ↦ inl four
+  | IsTextWritten.whole written is more ↦ inr (written, is, search rules)
+  | IsTextWritten.part own written is more four ↦ inl four
 ]

@@ -2,7 +2,7 @@ use Rattle.std.proofs.Common.{[], ◌++◌, refl, subst, arith}
 use Rattle.std.proofs.lemmas.List.{take_all}
 use Rattle.std.specs.Io.KnownBytes.{Appends}
 use Rattle.legal_moves.specs.Compiled.{compiled_game}
-use Rattle.session_lines.specs.Lines.{AreLines}
+use Rattle.session_lines.specs.Lines.{AreLinesOfMoves}
 use Rattle.session_lines.specs.Parts.{AppendsPart}
 use Rattle.session_lines.proofs.Appends.{appends_then, appends_nothing}
 use Rattle.session_lines.proofs.WritingLemmas.{lines_part, one_more_line, stopped, unwritten}
@@ -43,4 +43,4 @@ pub returns-clause-ok : goal.returns-clause-ok
 returns-clause-ok g c =
     let before = c.loop-k.invariant in
     let all = take_all c.loop-k.k c.args.moves.now (omega (arith, c.loop-k-test.false, c.len-k-end.ensures)) in
-    (before.0, subst (λ ms. AreLines (compiled_game c.args.compiled.now) ms before.0) all before.1, before.2)
+    (before.0, subst (λ ms. AreLinesOfMoves (compiled_game c.args.compiled.now) ms before.0) all before.1, before.2)

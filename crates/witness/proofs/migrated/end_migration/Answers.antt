@@ -12,5 +12,5 @@ returns-in-Ok-clause-goes_on c =
 
 pub returns-in-Err-clause-fault : goal.returns-in-Err-clause-fault
 returns-in-Err-clause-fault c =
-    refused_for _ _ _ c.requires c.stopped_migrations_go_on.ensures.leaves c.a_picture_stores_one_table_of_all_layouts.ensures c.in-Err.refused.fault
+    refused_for _ _ _ c.requires c.stopped_migrations_go_on.ensures.leaves c.an_image_stores_one_table_of_all_layouts.ensures c.in-Err.refused.fault
     c.in-Err.ensures.cause

@@ -19,5 +19,5 @@ returns c =
     (counted_so (disk_in c.args.disk) failed c.requires) in
     found_all c.after_stop.result _ (behind_begun _ _ _ _ before c.begin_migration-left.ensures)
     (subst (λ (m : MemDisk). IfOk c.after_stop.result (λ found. MayLeave (disk_in m).now (disk_in found).now.contents)) c.into_inner.ensures
-    c.after_stop.ensures.picture)
+    c.after_stop.ensures.image)
     c.after_stop.ensures.synced c.after_stop.ensures.honest

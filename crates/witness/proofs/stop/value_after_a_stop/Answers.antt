@@ -6,5 +6,5 @@ value_of-requires c =
       honest = c.in-Ok-after_stop.ensures.honest;
       disk = _;
       behind = c.in-Ok-use_table.ensures.used;
-      left = rw c.into_inner.ensures at c.in-Ok-after_stop.ensures.picture;
+      left = rw c.into_inner.ensures at c.in-Ok-after_stop.ensures.image;
     }

@@ -12,7 +12,7 @@ use Rattle.std.proofs.lemmas.Result.{on_ok_weaker}
 use Rattle.page_store.specs.lemmas.Frames.{read_refused, refused_since, written_since}
 use Rattle.btree.proofs.puts.Faults.{passed_on, below_refused, marks_take, not_there, no_kind, too_deep, child_fails, reads_unchanged}
 use Rattle.btree.proofs.puts.Levels.{put_in_leaf, put_in_inner}
-use Rattle.btree.specs.lemmas.Growth.{AreWritten, IsGrown}
+use Rattle.btree.specs.lemmas.Growth.{AreWritten, IsGrownTree}
 use Rattle.btree.specs.lemmas.PutItems.{listed}
 use Rattle.btree.specs.declared.put.items.FewItems.{FewItems}
 use Rattle.btree.proofs.put.below.+put_below.Goals as goal
@@ -116,7 +116,7 @@ returns-in-Some-Leaf-clause-grown g t c honest d growing =
     let entry = c.new_entry-entry.result in
     let entries = take from was ++ (listed w Leaf entry.count entry.bytes.items ++ drop to was) in
     let leaf = subst (λ (k : Kind). IsPage w k c.read_page.new.into) c.in-Some-Leaf.field-0-is c.in-Some-Leaf.ensures.some in
-    IfOk-weaker c.write_spliced.result (λ tops. AreWritten w Leaf q entries (tops_in w tops) mid new) (λ tops. IsGrown w key value d q (tops_in w tops) old new)
+    IfOk-weaker c.write_spliced.result (λ tops. AreWritten w Leaf q entries (tops_in w tops) mid new) (λ tops. IsGrownTree w key value d q (tops_in w tops) old new)
     (λ tops written. put_in_leaf w key value q old mid c.read_page.new.into honest read.works read.unchanged.marks
     (reads_unchanged old mid read.unchanged honest) (read.bytes honest)
     d new entries (tops_in w tops) leaf
@@ -146,7 +146,7 @@ returns-in_ok-tops-in-Some-Inner-clause-grown g t c honest d growing =
     let on : i + 1 ≡ suc i = omega arith in
     λ k. take i (items_in w Inner page) ++ (tops ++ drop (on k) (items_in w Inner page)) in
     IfOk-weaker c.write_led.result (λ heads. reads below q ≡ page → AreWritten w Inner q all (tops_in w heads) below new)
-    (λ heads. IsGrown w key value d q (tops_in w heads) old new)
+    (λ heads. IsGrownTree w key value d q (tops_in w heads) old new)
     (λ heads written. put_in_inner w key value q old mid page honest read.works read.unchanged.marks
     (reads_unchanged old mid read.unchanged honest) (read.bytes honest)
     d i c.place_of.result c.read_u32-child.result item below new tops

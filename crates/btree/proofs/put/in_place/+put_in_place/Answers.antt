@@ -7,7 +7,7 @@ use Rattle.btree.specs.declared.page.kind.Kind.TheVariants.{Leaf, Inner}
 use Rattle.btree.specs.Page.{Item, IsPage, child_of, items_in}
 use Rattle.btree.specs.Entries.{Ascend, find_entry, first_key, put_entry}
 use Rattle.btree.specs.Tree.{entries_below}
-use Rattle.btree.specs.lemmas.Growth.{AreWritten, IsGrowing, IsGrown}
+use Rattle.btree.specs.lemmas.Growth.{AreWritten, IsGrowing, IsGrownTree}
 use Rattle.btree.specs.lemmas.Spots.{LeadsTo, IsSpot}
 use Rattle.btree.specs.declared.put.in_place.Spot.{Spot}
 use Rattle.btree.proofs.puts.InPlace.{of_both, grown_by, leaf_in_place, leaf_new, inner_in_place, inner_new, in_place_since, in_place_written}
@@ -26,8 +26,8 @@ returns-in-Some-Leaf-clause-grown g t c = λ honest d top growing leads first.
     let now : IsTrue mid.disk.honest = subst (λ (s : Store). IsTrue s.disk.honest) (sym same) honest in
     of_both (λ done. IsTrue done → (t : Item) → child_of t ≡ q → Ascend (items_in w Leaf (reads mid q)) → first_key (items_in w Leaf (reads mid q)) ≡ Some t.0
     → AreWritten w Leaf q (put_entry (items_in w Leaf (reads mid q)) key value) (t ∷ []) mid new)
-    (λ done. IsTrue done → IsPage w Leaf (reads mid q)) (λ done. IsTrue done → IsGrown w key value d q (top ∷ []) old new) c.put_on.result
-    (λ done written leaf is. subst (λ (s : Store). IsGrown w key value d q (top ∷ []) s new) same
+    (λ done. IsTrue done → IsPage w Leaf (reads mid q)) (λ done. IsTrue done → IsGrownTree w key value d q (top ∷ []) old new) c.put_on.result
+    (λ done written leaf is. subst (λ (s : Store). IsGrownTree w key value d q (top ∷ []) s new) same
     (leaf_in_place w key value q top mid new now leads d (subst (λ (s : Store). IsGrowing w d q s) (sym same) growing)
     (subst (λ (s : Store). first_key (entries_below w (reads s) d q) ≡ Some top.0) (sym same) first) (leaf is) (λ ascend f. written is top leads ascend f)))
     (c.put_on.ensures.written now) (c.put_on.ensures.leaf now)
@@ -48,11 +48,11 @@ returns-in-Some-Below-clause-grown g t c = λ honest d top growing leads first.
     subst (λ (s : Spot). IsSpot w (reads old q) key s) c.in-Some-Below.field-0-is (c.in-Some-Below.ensures.seen honest) in
     let there : IsPage w Inner (reads mid q) × LeadsTo w (reads mid q) key child =
     subst (λ (s : Store). IsPage w Inner (reads s q) × LeadsTo w (reads s q) key child) (sym same) seen in
-    grown_by c.put_in_place.result (IsGrown w key value d q (top ∷ []) old new)
+    grown_by c.put_in_place.result (IsGrownTree w key value d q (top ∷ []) old new)
     (λ e t. IsGrowing w e child mid × (child_of t ≡ child) × (first_key (entries_below w (reads mid) e child) ≡ Some t.0))
-    (λ e t. IsGrown w key value e child (t ∷ []) mid new)
+    (λ e t. IsGrownTree w key value e child (t ∷ []) mid new)
     (λ e t given. c.put_in_place.ensures.grown now e t given.0 given.1 given.2)
-    (λ grow (wrote : PagesWritten 0 mid new). subst (λ (s : Store). IsGrown w key value d q (top ∷ []) s new) same
+    (λ grow (wrote : PagesWritten 0 mid new). subst (λ (s : Store). IsGrownTree w key value d q (top ∷ []) s new) same
     (inner_in_place w key value q top mid new now leads child wrote.works
     (subst (λ (s : Store). mark s.marks q ≡ Fresh) (sym same) (c.is_fresh-fresh.ensures.0 c.if-not-fresh.false))
     c.in-Some-Below.ensures.is_page (subst (λ (s : Store). q < length s.marks) (sym same) c.in-Some-Below.ensures.there) there.1

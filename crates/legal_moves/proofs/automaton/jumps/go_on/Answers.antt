@@ -5,7 +5,7 @@ use Rattle.rbg_game.specs.Meaning.{game_of}
 use Rattle.legal_moves.specs.Glushkov.{IsNextAt}
 use Rattle.legal_moves.specs.NumberLists.{AreListed}
 use Rattle.legal_moves.specs.lemmas.Configurations.{expression_at}
-use Rattle.legal_moves.specs.lemmas.Walks.{IsNoted}
+use Rattle.legal_moves.specs.lemmas.Walks.{HasNoted}
 use Rattle.legal_moves.proofs.GetLemmas.{slice_get-within}
 use Rattle.legal_moves.proofs.automata.ReadyLemmas.{read_at, followers_listed}
 use Rattle.legal_moves.proofs.searches.ExpandLemmas.{number_from, number_upto}
@@ -71,13 +71,13 @@ loop-next-preserved c =
     let new = c.note.new.walk in
     let more = c.in_ok-note.ensures.kept in
     let here_noted : (i m : ℕ) → (i < n) ⊎ (n ≤ i) → i < n + 1 → slice_get ks i ≡ Some m
-    → IsNoted game e new here.vertex m = λ i m either less at. elim either [
+    → HasNoted game e new here.vertex m = λ i m either less at. elim either [
       | inl low ↦ noted_kept game e walk new more here.vertex m (c.loop-next.invariant.noted i m low at)
       | inr high ↦
           let same : i ≡ n = omega (arith, high, less) in
           let both : Some k ≡ Some m = sym at_k ∙ ap (slice_get ks) (sym same) ∙ at in
           let one : k ≡ m = cc in
-          subst (IsNoted game e new here.vertex) one c.in_ok-note.ensures.noted
+          subst (HasNoted game e new here.vertex) one c.in_ok-note.ensures.noted
     ] in
     record {
       kept = kept_then old walk new c.loop-next.invariant.kept more;
@@ -106,4 +106,4 @@ returns-clause-gone c =
     let same : here ≡ j = cc in
     let found = listed.all r (subst (λ x. IsNextAt e x.number r) (sym same) next) in
     let less : found.0 < c.loop-next.next-index = omega (arith, slice_get-within ks found.0 r found.1, c.loop-next-test.false) in
-    subst (λ x. IsNoted game e walk x.vertex r) same (c.loop-next.invariant.noted found.0 r less found.1)
+    subst (λ x. HasNoted game e walk x.vertex r) same (c.loop-next.invariant.noted found.0 r less found.1)

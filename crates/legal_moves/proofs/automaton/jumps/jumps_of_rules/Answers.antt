@@ -1,6 +1,6 @@
 use Rattle.std.proofs.Common.{IfOk, subst}
 use Rattle.rbg_game.specs.Meaning.{game_of}
-use Rattle.legal_moves.specs.Jumps.{AreRows}
+use Rattle.legal_moves.specs.Jumps.{AreJumpRows}
 use Rattle.legal_moves.proofs.automata.CompiledLemmas.{rules_last, rules_ready}
 use Rattle.legal_moves.proofs.automaton.jumps.jumps_of_rules.Goals as goal
 
@@ -10,4 +10,4 @@ rows_of-requires c = record { ready = rules_ready (game_of c.args.game.now) c.ar
 pub returns : goal.returns
 returns c =
     let game = game_of c.args.game.now in
-    subst (λ e. IfOk c.rows_of.result (AreRows game e)) (rules_last game c.args.tables.now c.requires.tables) c.rows_of.ensures
+    subst (λ e. IfOk c.rows_of.result (AreJumpRows game e)) (rules_last game c.args.tables.now c.requires.tables) c.rows_of.ensures

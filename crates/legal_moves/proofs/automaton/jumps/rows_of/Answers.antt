@@ -6,7 +6,7 @@ use Rattle.rbg_game.specs.Rules.{count}
 use Rattle.rbg_game.specs.Meaning.{game_of, vertex_of}
 use Rattle.legal_moves.specs.Jumps.{IsRow}
 use Rattle.legal_moves.specs.lemmas.Configurations.{expression_at}
-use Rattle.legal_moves.specs.declared.automaton.jumps.Row.{Row}
+use Rattle.legal_moves.specs.declared.automaton.jumps.JumpRow.{JumpRow}
 use Rattle.legal_moves.proofs.GetLemmas.{slice_get-push}
 use Rattle.legal_moves.proofs.searches.LookLemmas.{mark_tells}
 use Rattle.legal_moves.proofs.automata.ReadyLemmas.{read_at, count_steps}
@@ -61,7 +61,7 @@ loop-at-preserved c =
     let some : 0 < m = omega (arith, m_is, c.requires.ready.sound.has_vertex) in
     let low : at % m < n = subst (λ k. at % m < k) m_is (mod-lt at some) in
     let new = subst (λ o. IfSome o (IsRow game e (at / m) (at % m))) c.in-Some.is c.in_ok-row.ensures in
-    let here : (p v : ℕ) (row : Row) → v < n → (slice_get rows (p * n + v) ≡ Some row) ⊎ (p * n + v ≡ length rows) × (row ≡ c.in-Some.row)
+    let here : (p v : ℕ) (row : JumpRow) → v < n → (slice_get rows (p * n + v) ≡ Some row) ⊎ (p * n + v ≡ length rows) × (row ≡ c.in-Some.row)
     → IsRow game e p v row = λ p v row inside either. elim either [
       | inl old ↦ c.loop-at.invariant.each p v row inside old
       | inr last ↦

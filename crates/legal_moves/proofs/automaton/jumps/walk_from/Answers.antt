@@ -3,7 +3,7 @@ use Rattle.std.proofs.lemmas.Bool.{cases_lt}
 use Rattle.rbg_game.specs.Meaning.{game_of}
 use Rattle.legal_moves.specs.lemmas.Configurations.{expression_at}
 use Rattle.legal_moves.specs.lemmas.Walks.{IsGoneOn}
-use Rattle.legal_moves.specs.declared.automaton.jumps.Walk.{Walk}
+use Rattle.legal_moves.specs.declared.automaton.jumps.ShiftClosure.{ShiftClosure}
 use Rattle.legal_moves.proofs.automata.RowLemmas.{first_begun, led_begun, led_inside, gone_kept}
 use Rattle.legal_moves.proofs.automaton.jumps.walk_from.Goals as goal
 
@@ -11,7 +11,7 @@ pub loop-at-init : goal.loop-at-init
 loop-at-init c =
     let game = game_of c.args.game.now in
     let e = expression_at game c.args.index in
-    let walk : Walk = record { met = c.push.new.self; to = c.new-2.result; ends = false } in
+    let walk : ShiftClosure = record { met = c.push.new.self; to = c.new-2.result; ends = false } in
     let one = c.in_ok-push.ensures.items ∙ ap (λ xs. xs ++ c.args.start ∷ []) c.new.ensures.items in
     record {
       first = first_begun game e c.args.start walk one;

@@ -3,7 +3,7 @@ use Rattle.rbg_game.specs.Rules.{count}
 use Rattle.rbg_game.specs.Meaning.{game_of}
 use Rattle.rbg_game.specs.Positions.{IsPositionOf}
 use Rattle.legal_moves.specs.Compiled.{compiled_game}
-use Rattle.legal_moves.specs.Jumps.{AreRows, AreJumps}
+use Rattle.legal_moves.specs.Jumps.{AreJumpRows, AreJumps}
 use Rattle.legal_moves.specs.Searches.{IsWide}
 use Rattle.legal_moves.specs.Tables.{inner_of, AreSame}
 use Rattle.legal_moves.specs.lemmas.Configurations.{expression_at, IsReady}
@@ -25,7 +25,7 @@ ends-requires c =
       same = subst (AreSame (inner_of game.rules)) (sym c.deref-2.ensures.value) c.self.invariant.same_are;
       jumps = subst (λ ts. AreJumps game ts c.deref-3.result.now) (sym c.deref.ensures.value)
           (subst (AreJumps game tables) (sym c.deref-3.ensures.value) c.self.invariant.jumps_are);
-      rows = subst (λ e. AreRows game e c.self.inside.hops) (sym last) c.self.invariant.hops_are;
+      rows = subst (λ e. AreJumpRows game e c.self.inside.hops) (sym last) c.self.invariant.hops_are;
       state = here.state_is;
       place = subst (λ e. c.args.at.now.place ≤ count e) (sym last) here.place_is;
     }

@@ -108,7 +108,7 @@ returns-in-Err-clause-err g c = λ begun kept whole is ahead fits.
           (λ honest is_open.
           let left_open : left.closed ≡ false = sym told.others.closed ∙ is_open in
           same_disk was.work.store.disk left.disk new.work.store.disk
-          (λ picture. StoresTrees g.row.LAYOUT (length was.work.store.marks) picture (kept_of was)) told.others.disk
+          (λ image. StoresTrees g.row.LAYOUT (length was.work.store.marks) image (kept_of was)) told.others.disk
           (subst (λ (l : ℕ). LeavesTable (StoresTrees l (length was.work.store.marks)) was.work.store.disk left.disk (kept_of was)) whole.of_layout
           (c.in-Err.ensures.err.kept_stop was.work.store (kept_of was) now
           (worked was kept whole is (file_in self) ahead sized fits honest (ahead.work.works.closed (c.save.ensures.advances.shut left_open))) left_open)))

@@ -122,14 +122,14 @@ returns-in-Err-clause-err g c = λ whole unkept.
     subst (λ (k : Option Kept). LeavesTable
     (StoresTrees g.row.LAYOUT (length was.work.store.marks)) was.work.store.disk new.work.store.disk k) (sym (none_kept was none))
     (same_disk was.work.store.disk left.disk new.work.store.disk
-    (λ picture. StoresTrees g.row.LAYOUT (length was.work.store.marks) picture None) told.others.disk
+    (λ image. StoresTrees g.row.LAYOUT (length was.work.store.marks) image None) told.others.disk
     (subst (λ (l : ℕ). LeavesTable (StoresTrees l (length was.work.store.marks)) was.work.store.disk left.disk None) whole.of_layout
     (c.in-Err.ensures.err.kept_stop (vacant was whole none honest (c.start.ensures.advances.shut left_open)) left_open))))
     (λ honest is_open.
     subst (λ (k : Option Kept). LeavesEither
     (StoresTrees g.row.LAYOUT (length was.work.store.marks)) was.work.store.disk new.work.store.disk k (Some now)) (sym (none_kept was none))
-    (same_disk was.work.store.disk left.disk new.work.store.disk (λ picture. StoresTrees g.row.LAYOUT (length was.work.store.marks) picture None
-    ⊎ StoresTrees g.row.LAYOUT (length was.work.store.marks) picture (Some now)) told.others.disk
+    (same_disk was.work.store.disk left.disk new.work.store.disk (λ image. StoresTrees g.row.LAYOUT (length was.work.store.marks) image None
+    ⊎ StoresTrees g.row.LAYOUT (length was.work.store.marks) image (Some now)) told.others.disk
     (subst (λ (l : ℕ). LeavesEither (StoresTrees l (length was.work.store.marks)) was.work.store.disk left.disk None (Some now)) whole.of_layout
     (c.start.ensures.stop (vacant was whole none honest is_open))))))
 

@@ -33,7 +33,7 @@ returns-in_err-slot-clause-err g c =
 
 pub returns-in_err-slot-clause-stop : goal.returns-in_err-slot-clause-stop
 returns-in_err-slot-clause-stop g c = λ vacant.
-    leaves_more (λ picture stored. inl stored)
+    leaves_more (λ image stored. inl stored)
     (vacant_leaves (g.P.Pages.store c.args.self.now.store) (g.P.Pages.store c.first_table.new.store)
     (g.met.P.Pages.sound c.args.self.now.store).few vacant c.in_err-slot.ensures.err.works)
 

@@ -5,7 +5,7 @@ use Rattle.legal_moves.specs.lemmas.Configurations.{expression_at, IsFollowed}
 use Rattle.legal_moves.proofs.ListingLemmas.{past}
 use Rattle.legal_moves.specs.lemmas.Progress.{began, state_at, IsGoing}
 use Rattle.legal_moves.specs.lemmas.Answers.{IsAnswerAt}
-use Rattle.legal_moves.specs.lemmas.Stands.{configurations_of, AreKept, IsShown}
+use Rattle.legal_moves.specs.lemmas.Stands.{configurations_of, AreKept, ShowsOne}
 use Rattle.legal_moves.specs.lemmas.VertexSearch.{at_vertex, seen_from, AreMarked}
 use Rattle.legal_moves.proofs.search.searcher.Searcher.+search.Given as goal
 
@@ -42,7 +42,7 @@ decreases-glance_at l = 7 * l.index + 1
 abbrev pub invariant-expand-loop-number : goal.invariant-expand-loop-number
 invariant-expand-loop-number l = record {
   kept : AreKept l.found;
-  shown : IsShown l.found l.here;
+  shown : ShowsOne l.found l.here;
   going : IsGoing (game_of l.self.game.now) (expression_at (game_of l.self.game.now) l.index) l.place
       (began (configurations_of l.initial.found)) (configurations_of l.found) l.at;
   known : IsAnswerAt (game_of l.self.game.now) (state_at (configurations_of l.initial.found) l.at) l.known;
@@ -54,7 +54,7 @@ invariant-expand-loop-number l = record {
 abbrev pub invariant-search-loop-at : goal.invariant-search-loop-at
 invariant-search-loop-at l = record {
   kept : AreKept l.found;
-  shown : IsShown l.found l.here;
+  shown : ShowsOne l.found l.here;
   going : IsGoing (game_of l.self.game.now) (expression_at (game_of l.self.game.now) l.index) l.place l.state (configurations_of l.found) l.at;
 }
 

@@ -1,4 +1,0 @@
-use Rattle.solver.proofs.laws.a_picture_stores_one_table.Goals as goal
-
-pub returns : goal.returns
-returns g c = g.met.F.GameFile.stores_one
