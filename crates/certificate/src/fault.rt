@@ -3,8 +3,8 @@ ghost use Rattle.std.specs.Prelude.{◌≡◌};
 ghost use Rattle.certificate.specs.Codes.{fault_code};
 
 use legal_moves::MoveFault;
+use numbered_actions::lines::line_column;
 use rbg_read::fault::GameFault;
-use rbg_read::numbered::lines::line_column;
 use std::alloc::AllocError;
 use thiserror::Error;
 

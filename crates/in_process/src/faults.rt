@@ -7,8 +7,8 @@ ghost use Rattle.in_process.specs.Given.{IsGiven};
 
 use crate::given::{NO_MEMORY, give_text};
 use explanations::explain::{Explanation, explain};
+use numbered_actions::lines::{LineColumn, line_column};
 use rbg_read::fault::GameFault;
-use rbg_read::numbered::lines::{LineColumn, line_column};
 use rbg_read::read::read_game;
 use std::alloc::{AllocError, Global};
 

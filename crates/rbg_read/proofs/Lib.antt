@@ -1,11 +1,3 @@
-mod Walks
-mod Steps
-mod NumberedActions
-mod ActionNumbers
-mod Lengths
-mod TokenPlaces
-mod ActionLines
-mod Stretches
 pub mod Collected
 pub mod Defaults
 pub mod EveryText

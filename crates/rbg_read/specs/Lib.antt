@@ -10,11 +10,6 @@ pub use Rattle.rbg_text.specs.Said
 pub use Rattle.rbg_text.specs.Syntax
 pub use Rattle.rbg_text.specs.Token
 pub use Rattle.rbg_text.specs.View
-pub mod Written
-pub mod Tokens
-pub mod Placed
-pub mod Listed
-pub mod Laws
 pub mod Causes
 pub mod Codes
 pub mod Example

@@ -1,5 +1,3 @@
-pub mod Walk
-pub mod Lines
 pub mod Build
 pub mod Depths
 pub mod Flat

@@ -1,6 +1,5 @@
 //! Reads game texts: the tokens are grouped into sections, the sections are checked, and the game is
-//! built. `read::read_game` answers the game, or the first cause for which the text is none. `numbered` finds the actions that have
-//! numbers where they stand in the text.
+//! built. `read::read_game` answers the game, or the first cause for which the text is none.
 #![tactic(auto)]
 
 mod build;
@@ -10,7 +9,6 @@ pub mod laws;
 mod limits;
 mod names;
 mod nodes;
-pub mod numbered;
 mod numbers;
 mod parts;
 pub mod read;

@@ -5,7 +5,7 @@ use Rattle.rbg_text.specs.Token.{Text}
 use Rattle.rbg_read.specs.Reads.{Reads, Fault}
 use Rattle.rbg_read.specs.declared.fault.GameFault.{GameFault}
 use Rattle.rbg_read.specs.declared.fault.GameFault.TheVariants as faults
-use Rattle.rbg_read.specs.Listed.{ListsActions}
+use Rattle.numbered_actions.specs.Listed.{ListsActions}
 use Rattle.session_lines.specs.Answers.{TellsRefusal, IsTextRefused, IsMovesAnswer}
 use Rattle.session_lines.specs.Parts.{IsTextWritten}
 use Rattle.session_lines.specs.Actions.{TellsActions}

@@ -7,7 +7,7 @@ ghost use Rattle.session_lines.specs.Parts.{IsTextWritten};
 
 use crate::puts::put_line;
 use crate::refusals::write_refused;
-use rbg_read::numbered::list::action_lines;
+use numbered_actions::list::action_lines;
 use solver::SolverFault;
 use std::alloc::Global;
 use std::io::Write;

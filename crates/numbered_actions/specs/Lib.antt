@@ -1,0 +1,11 @@
+pub use Rattle.rbg_text.specs.Syntax
+pub use Rattle.rbg_text.specs.Token
+pub use Rattle.rbg_text.specs.View
+pub use Rattle.rbg_read.specs.Means
+pub use Rattle.rbg_read.specs.Reads
+pub mod Written
+pub mod Tokens
+pub mod Placed
+pub mod Listed
+pub mod Laws
+pub mod lemmas
