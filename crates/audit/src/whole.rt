@@ -1,16 +1,14 @@
 //! The verdict of a table.
-ghost use Rattle.std.specs.Prelude.{◌≡◌, ◌↔◌, ◌^◌, ◌≤◌, ℕ, List, true, IfOk, OnOk, IfErr, Err, Ok, length};
+ghost use Rattle.std.specs.Prelude.{◌≡◌, ◌↔◌, ◌^◌, ◌≤◌, ℕ, List, true, IfOk, OnOk, IfErr, Ok, length};
 ghost use Rattle.retrograde.specs.View.{HasNumber};
 ghost use Rattle.retrograde.specs.Stored.{IsTable, view_of, expanded_count};
 ghost use Rattle.retrograde.specs.Sound.{IsLocallySound};
-ghost use Rattle.table.specs.Faults.{NeedsNoPage};
 ghost use Rattle.audit.specs.Answers.{IsAnswer, IsTableSo};
-ghost use Rattle.audit.specs.Causes.{OfTableFault, HasAuditCause, HasWide};
+ghost use Rattle.audit.specs.Causes.{HasAuditCause, HasWide};
 ghost use Rattle.audit.specs.lemmas.Conditions.{AreFloors};
 ghost use Rattle.audit.specs.lemmas.Edges.{AreArrivals};
 ghost use Rattle.table.specs.Frames.{IsRead};
 ghost use Rattle.audit.specs.declared.verdict.Verdict.TheVariants.{Right};
-ghost use Rattle.audit.specs.declared.fault.AuditFault.TheVariants.{TooWide};
 
 use crate::arrivals::arrivals;
 use crate::fault::AuditFault;
@@ -68,10 +66,9 @@ pub fn audit<M: MoveSource, T: Table>(
         → IsLocallySound (M.graph source.now) (M.is_wide source.now) (T.stored table.old) }
     ensures so { T.is_honest table.old → IsTable (T.stored table.old) → result ≡ Ok Right
         → IsTableSo (M.graph source.now) (view_of (T.stored table.old)) }
-    ensures wide { T.is_honest table.old → result ≡ Err TooWide → HasWide (M.is_wide source.now) (T.stored table.old) }
     ensures read { IsRead T.stored T.is_honest T.counted T.stays table.old table.new }
-    ensures room { IfErr result (OfTableFault NeedsNoPage) }
-    ensures fault { IfErr result (OfTableFault (T.fails table.old table.new)) }
+    ensures err { IfErr result (HasAuditCause
+        (T.is_honest table.old → HasWide (M.is_wide source.now) (T.stored table.old)) (T.fails table.old table.new)) }
 {
     let floors = floors(alloc, table)?;
     if adds_up(alloc, source, table, &floors)? {

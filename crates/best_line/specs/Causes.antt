@@ -62,3 +62,10 @@ pub record HasLineCause (Cause Stops : LineFault → Type 0) (Fails : TableFault
   pub settled : ¬ (told ≡ NotSettled)
   pub room : OfTable NeedsNoPage told
   pub fault : OfTable Fails told
+
+-- what is so of a fault of the line from any position: in a table that agrees with itself, and in any
+pub record HasNoLine (Cause Stops : LineFault → Type 0) (Fails : TableFault → Type 0) (told : LineFault) : Type 0 where
+  pub cause : Cause told
+  pub stops : Stops told
+  pub room : OfTable NeedsNoPage told
+  pub fault : OfTable Fails told

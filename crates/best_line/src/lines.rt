@@ -3,8 +3,7 @@ ghost use Rattle.std.specs.Prelude.{◌≡◌, ◌↔◌, ◌<◌, IfOk, OnOk, I
 ghost use Rattle.retrograde.specs.Stored.{IsTable, view_of};
 ghost use Rattle.retrograde.specs.Sound.{IsLocallySound};
 ghost use Rattle.best_line.specs.Lines.{IsBestLine, IsBestPlay, IsToldLine};
-ghost use Rattle.best_line.specs.Causes.{HasLineCause, IsLineCause, LineStops, OfTable};
-ghost use Rattle.table.specs.Faults.{NeedsNoPage};
+ghost use Rattle.best_line.specs.Causes.{HasLineCause, HasNoLine, IsLineCause, LineStops};
 ghost use Rattle.table.specs.Frames.{IsRead};
 
 use crate::answers::Value;
@@ -72,13 +71,13 @@ pub fn line<M: MoveSource, T: Table>(
     ensures told { T.is_honest table.old → IsTable (T.stored table.old)
         → IfOk result (λ numbers. IsToldLine (M.graph source.now) (view_of (T.stored table.old)) number numbers.items) }
     ensures begins { IfOk result (λ numbers. slice_get numbers.items 0 ≡ Some number) }
-    ensures cause { T.is_honest table.old → IsLocallySound (M.graph source.now) (M.is_wide source.now) (T.stored table.old)
-        → IfErr result (IsLineCause (view_of (T.stored table.old)) number) }
-    ensures stops { T.is_honest table.old → IsTable (T.stored table.old)
-        → IfErr result (LineStops (M.graph source.now) (M.is_wide source.now) (view_of (T.stored table.old)) number) }
     ensures read { IsRead T.stored T.is_honest T.counted T.stays table.old table.new }
-    ensures room { IfErr result (OfTable NeedsNoPage) }
-    ensures fault { IfErr result (OfTable (T.fails table.old table.new)) }
+    ensures err { IfErr result (HasNoLine
+        (λ fault. T.is_honest table.old → IsLocallySound (M.graph source.now) (M.is_wide source.now) (T.stored table.old)
+        → IsLineCause (view_of (T.stored table.old)) number fault)
+        (λ fault. T.is_honest table.old → IsTable (T.stored table.old)
+        → LineStops (M.graph source.now) (M.is_wide source.now) (view_of (T.stored table.old)) number fault)
+        (T.fails table.old table.new)) }
 {
     match value(table, number)? {
         Value::Won(winner, distance) => follow(alloc, source, table, number, winner, distance),

@@ -1,12 +1,12 @@
 //! The moves of a known position, with what the table tells of where they lead.
-ghost use Rattle.std.specs.Prelude.{◌≡◌, ◌↔◌, ◌<◌, ℕ, List, All, IfOk, IfErr, IfSome, Err, length, slice_get};
+ghost use Rattle.std.specs.Prelude.{◌≡◌, ◌↔◌, ◌<◌, ℕ, List, All, IfOk, IfErr, IfSome, length, slice_get};
 ghost use Rattle.retrograde.specs.Stored.{IsTable, view_of};
 ghost use Rattle.retrograde.specs.View.{HasNumber};
 ghost use Rattle.table.specs.Faults.{NeedsNoPage};
 ghost use Rattle.table.specs.Frames.{IsRead};
 ghost use Rattle.legal_moves.specs.Compiled.{compiled_game, packing_kind, IsSoundCompiled};
 ghost use Rattle.legal_moves.specs.Sources.{IsPositionBytes, IsWideAt};
-ghost use Rattle.best_line.specs.KnownCauses.{FaultOfTable};
+ghost use Rattle.best_line.specs.KnownCauses.{FaultOfTable, HasNoMoves};
 ghost use Rattle.best_line.specs.Moves.{AreKnownMoves};
 ghost use Rattle.best_line.specs.lemmas.Found.{AreToldMoves, IsToldMove, LeadsToPosition};
 ghost use Rattle.best_line.specs.declared.known_fault.KnownMovesFault.TheVariants.{Inconsistent, TooWide};
@@ -91,13 +91,13 @@ pub fn known_moves<T: Table>(
     requires known { number < (T.counted table.old).known }
     ensures moves { T.is_honest table.old → IsTable (T.stored table.old) → IfOk result
         (AreKnownMoves (packing_kind compiled.now) (compiled_game compiled.now) (view_of (T.stored table.old)) number) }
-    ensures none { T.is_honest table.old → result ≡ Err Inconsistent → (x : List ℕ) × HasNumber (view_of (T.stored table.old)) number x
-        × (¬ IsPositionBytes (packing_kind compiled.now) (compiled_game compiled.now) x) }
-    ensures wide { T.is_honest table.old → result ≡ Err TooWide → (x : List ℕ) × HasNumber (view_of (T.stored table.old)) number x
-        × IsWideAt (packing_kind compiled.now) (compiled_game compiled.now) x }
     ensures read { IsRead T.stored T.is_honest T.counted T.stays table.old table.new }
-    ensures room { IfErr result (FaultOfTable NeedsNoPage) }
-    ensures fault { IfErr result (FaultOfTable (T.fails table.old table.new)) }
+    ensures err { IfErr result (HasNoMoves
+        (T.is_honest table.old → (x : List ℕ) × HasNumber (view_of (T.stored table.old)) number x
+        × (¬ IsPositionBytes (packing_kind compiled.now) (compiled_game compiled.now) x))
+        (T.is_honest table.old → (x : List ℕ) × HasNumber (view_of (T.stored table.old)) number x
+        × IsWideAt (packing_kind compiled.now) (compiled_game compiled.now) x)
+        (T.fails table.old table.new)) }
 {
     let packed = table.packed(number)?;
     let Some(at) = compiled.packing().unpack(&packed) else {

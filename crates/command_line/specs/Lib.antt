@@ -2,3 +2,4 @@ pub mod Words
 pub mod Commands
 pub mod Statuses
 pub mod Options
+pub mod Lines

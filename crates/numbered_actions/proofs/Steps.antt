@@ -1,5 +1,5 @@
 -- The end of a walk over the tokens.
-use Rattle.std.proofs.Common.{◌≡◌, ◌+◌, List, [], ◌++◌, map, ap, sym, ◌∙◌, append-nil}
+use Rattle.std.proofs.Common.{◌≡◌, List, [], ◌++◌, map, ap, sym, ◌∙◌, append-nil}
 use Rattle.rbg_text.specs.Syntax.{Tokens, Section, text}
 use Rattle.numbered_actions.specs.Written.{Cut, cut_at, spots_of}
 use Rattle.numbered_actions.specs.lemmas.Walk.{Place, elsewhere, found_from}

@@ -12,7 +12,8 @@ use Rattle.page_store.specs.declared.marks.Mark.{Mark}
 use Rattle.page_store.specs.declared.marks.Mark.TheVariants.{Committed, Waiting}
 use Rattle.page_store.specs.Marks.{mark, IsMarked}
 use Rattle.page_store.specs.Page.{page}
-use Rattle.page_store.specs.Store.{Store, reads, StoreWorks}
+use Rattle.page_store.specs.Store.{Store, reads, IsRemarked, IsUnchanged, StoreWorks}
+use Rattle.page_store.specs.lemmas.Works.{works_then}
 use Rattle.page_chain.specs.Chain.{next_in, LeadsThrough, payloads, IsChain}
 use Rattle.page_chain.specs.Causes.{ChainReadCause}
 use Rattle.page_chain.specs.lemmas.Causes.{LinkCause}
@@ -39,6 +40,16 @@ one_marked at old new works shown leaves closed marked = record { works = works;
       | inl same ↦ inr (ap (mark new.marks) same ∙ marked.is)
       | inr other ↦ inl (marked.others p other)
     ]
+
+-- a call that marks a page, and one that reads it
+pub read_marked : {at : ℕ} {old mid new : Store} → IsRemarked old mid → StoreWorks old mid → IsMarked at Committed old.marks mid.marks
+    → IsUnchanged mid new → StoreWorks mid new → OnlyMarks old new
+read_marked {at} {old} {mid} {new} marking first marked unchanged second =
+    one_marked at old new (works_then first second)
+    (λ honest. unchanged.shown (still_honest first.goes_on honest) ∙ ap (λ (d : DiskStated). d.now) marking.disk)
+    (leaves_same _ _ new.disk marking.disk unchanged.leaves)
+    (unchanged.closed ∙ marking.closed)
+    (subst (λ (ms : List Mark). IsMarked at Committed old.marks ms) (sym unchanged.marks) marked)
 
 -- this many pages are read, and the next one is known
 pub record IsRead (old now : Store) (first count next : ℕ) (pages content : List ℕ) : Type 0 where

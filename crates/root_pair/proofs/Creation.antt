@@ -1,15 +1,40 @@
 -- What a stop within the parts of `create` leaves.
 use Rattle.std.proofs.Common.{◌≡◌, ◌≢◌, inl, inr, ℕ, ◌<◌, ◌≤◌, List, length, take, slice_index, IsTrue, refl, sym, ◌∙◌, ap, arith}
-use Rattle.sector_disk.specs.Disk.{Image, sector, Shown, MayLeave, Keeps, AllSynced, SyncedMore, Disk, size, GoesOn, LeavesOnly}
+use Rattle.sector_disk.specs.Disk.{Image, sector, Shown, MayLeave, Keeps, AllSynced, SyncedMore, Disk, size, GoesOn, Steps, LeavesOnly}
 use Rattle.sector_disk.specs.lemmas.Disk.{KeepsThroughout}
-use Rattle.sector_disk.specs.lemmas.Moments.{leaves_then, leaves_more, keeps_fewer, keeps_trans, sync_keeps, still_honest}
+use Rattle.sector_disk.specs.lemmas.Moments.{goes_on_refl, goes_on_trans, throughout_start, throughout_next, leaves_then, leaves_more, keeps_fewer, keeps_trans, sync_keeps, still_honest}
 use Rattle.std.specs.Prelude.{Result, Ok, Err, IfErr}
-use Rattle.root_pair.specs.Root.{BeginsAsTable, IsTableImage, picked, root_of, OldOrNoneOrNew, blank_gate}
+use Rattle.root_pair.specs.Root.{BeginsAsTable, IsTableImage, IsUnwritten, picked, root_of, OldOrNoneOrNew, blank_gate}
+use Rattle.root_pair.specs.Frames.{IsCreating, IsOnlyRead}
 use Rattle.root_pair.specs.lemmas.Root.{IsClosed, IsLaid}
+use Rattle.root_pair.specs.lemmas.Frames.{IsWrittenElsewhere}
 
 -- a write of the gate or of a slot keeps the rest
 pub closed : {old new : Shown} (at : ℕ) → 1 ≤ at → at < 4 → Keeps (λ k. k ≢ at) old new → Keeps IsClosed old new
 closed at low high keeps = keeps_fewer (λ k is_closed is. omega (arith, is_closed, is, low, high)) keeps
+
+-- before the first write
+pub nothing_written : (disk : Disk) → IsWrittenElsewhere IsClosed disk disk
+nothing_written disk = record { kept = λ honest. throughout_start IsClosed disk; time = goes_on_refl disk; same_size = refl }
+
+-- one call more
+written_on : {old mid new : Disk} → IsWrittenElsewhere IsClosed old mid → Steps mid new → (IsTrue mid.honest → Keeps IsClosed mid.now new.now)
+    → IsWrittenElsewhere IsClosed old new
+written_on so_far step keeps = record {
+  kept = λ honest. throughout_next honest (so_far.kept honest) step keeps;
+  time = goes_on_trans so_far.time step.goes_on;
+  same_size = step.same_size ∙ so_far.same_size;
+}
+
+-- a write of the gate or of a slot
+pub put_on : {old mid new : Disk} (at : ℕ) → (1 ≤ at) × (at < 4) → IsWrittenElsewhere IsClosed old mid → Steps mid new
+    → (IsTrue mid.honest → Keeps (λ k. k ≢ at) mid.now new.now) → IsWrittenElsewhere IsClosed old new
+put_on at within so_far step keeps = written_on so_far step (λ honest. closed at within.0 within.1 (keeps honest))
+
+-- a sync
+pub synced_on : {old mid new : Disk} → IsWrittenElsewhere IsClosed old mid → Steps mid new → (IsTrue mid.honest → SyncedMore mid.now new.now)
+    → IsWrittenElsewhere IsClosed old new
+synced_on so_far step same = written_on so_far step (λ honest. sync_keeps IsClosed (same honest))
 
 -- the sectors after the slots are kept while the table is looked for and laid
 pub pages_laid : (old fresh laid : Shown) → SyncedMore old fresh → Keeps IsClosed fresh laid → Keeps (λ k. 4 ≤ k) old laid
@@ -63,3 +88,44 @@ module _ (root : List ℕ) (old fresh laid : Disk) (honest : IsTrue old.honest) 
 pub told_unwritten : {X E : Type 0} (Such : E → Type 0) {P : Type 0} (r : Result X E) → P → IfErr r (λ e. Such e → P)
 told_unwritten Such (Ok x) holds = tt
 told_unwritten Such (Err e) holds = λ such. holds
+
+-- a disk that was only read is not written
+pub unwritten : {old new : Disk} {before now : ℕ} → IsOnlyRead old new before now → IsTrue old.honest → IsUnwritten old new
+unwritten looked honest = record { same = looked.same honest; leaves = looked.moments honest }
+
+module _ {root : List ℕ} {old fresh : Disk} {before then : ℕ} (looked : IsOnlyRead old fresh before then) where
+  -- `create` as far as the search for a table
+  pub looked_for : IsCreating root old fresh before then
+  looked_for = record {
+    moments = λ honest. leaves_more (λ image left table. inl left) (looked.moments honest);
+    pages = λ honest. sync_keeps _ (looked.same honest);
+    time = looked.time;
+    same_size = looked.same_size;
+    failures = looked.failures;
+  }
+
+  module _ {laid : Disk} {now : ℕ} (none : IsTrue old.honest → BeginsAsTable old.now.contents → ⊥) (synced : IsTrue old.honest → AllSynced fresh.now)
+      (lay : IsWrittenElsewhere IsClosed fresh laid) (later : then ≤ now) where
+    -- as far as the slots and the gate
+    pub laid_then : IsCreating root old laid before now
+    laid_then = record {
+      moments = λ honest. while_laid root old fresh laid honest looked.time (none honest) (synced honest) (looked.same honest)
+          (looked.moments honest) lay.kept;
+      pages = λ honest. pages_laid _ _ _ (looked.same honest) (lay.kept (still_honest looked.time honest)).keeps;
+      time = goes_on_trans looked.time lay.time;
+      same_size = lay.same_size ∙ looked.same_size;
+      failures = omega (arith, looked.failures, later);
+    }
+
+    -- and to its end
+    pub signed_then : {signed : Disk} {last : ℕ} → 128 ≤ size old → (IsTrue fresh.honest → IsLaid root fresh.now laid.now)
+        → IsWrittenElsewhere (λ k. k ≢ 0) laid signed → now ≤ last → IsCreating root old signed before last
+    signed_then {signed} room is_laid sign last = record {
+      moments = λ honest. while_signed root old fresh laid honest looked.time (none honest) (synced honest) (looked.same honest)
+          (looked.moments honest) lay.kept signed (omega (arith, room, looked.same_size, lay.same_size))
+          (is_laid (still_honest looked.time honest)) sign.kept;
+      pages = λ honest. pages_signed _ _ _ (laid_then.pages honest) (sign.kept (still_honest laid_then.time honest)).keeps;
+      time = goes_on_trans laid_then.time sign.time;
+      same_size = sign.same_size ∙ laid_then.same_size;
+      failures = omega (arith, laid_then.failures, last);
+    }

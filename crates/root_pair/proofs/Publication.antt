@@ -1,11 +1,15 @@
 -- What a stop within the two halves of `publish` leaves.
+use Rattle.std.specs.Prelude.{Result}
 use Rattle.std.proofs.Common.{◌≡◌, ◌≢◌, inl, inr, ℕ, ◌-◌, ◌%◌, ◌≤◌, List, length, take, slice_index, IsTrue, refl, ◌∙◌, ap, subst, arith}
 use Rattle.std.proofs.lemmas.Bool.{cases_eq}
 use Rattle.sector_disk.specs.Disk.{Image, sector, Shown, Agrees, MayLeave, Keeps, AllSynced, Disk, Steps, LeavesOnly}
 use Rattle.sector_disk.specs.lemmas.Disk.{KeepsThroughout}
-use Rattle.sector_disk.specs.lemmas.Moments.{leaves_step, leaves_then, leaves_more, still_honest}
+use Rattle.sector_disk.specs.lemmas.Moments.{goes_on_trans, leaves_step, leaves_then, leaves_more, still_honest}
 use Rattle.root_pair.specs.lemmas.Rest.{bit, same_root, rest_leaves}
 use Rattle.root_pair.specs.Root.{picked, spare_by, turned, IsAtRest, IsPublished, OldOrNew}
+use Rattle.root_pair.specs.Frames.{IsPublishing, IsUnpublished}
+use Rattle.root_pair.specs.declared.fault.RootFault.{RootFault}
+use Rattle.root_pair.specs.lemmas.Frames.{IsLookedAt, IsWrittenElsewhere}
 
 -- the first half: only the spare slot is open
 pub first_half : (shown : Shown) (root : List ℕ) (spare : ℕ) → IsAtRest shown → spare ≡ 3 - bit shown.contents → (image : Image)
@@ -139,3 +143,49 @@ module _ (start read : Disk) (honest : IsTrue start.honest) (step : Steps start 
   other_gate spare slot gate not_gate not_spare kept kept_2 =
       let first = kept (still_honest step.goes_on honest) in
       (kept_2 (still_honest first.goes_on (still_honest step.goes_on honest))).keeps.contents k not_gate ∙ other_slot spare slot not_spare kept
+
+-- a read alone: nothing is published
+pub unpublished : {start read : Disk} → IsLookedAt start read → {X : Type 0} (result : Result X RootFault) → IsUnpublished start read result
+unpublished look result = record {
+  read = λ honest told. look.unchanged honest;
+  unwritten = λ honest told. leaves_step look.time (λ image left. left)
+      (λ image left. subst (λ (s : Shown). MayLeave s image) (look.unchanged honest) left);
+}
+
+module _ {root : List ℕ} {start read : Disk} (look : IsLookedAt start read) where
+  -- `publish` as far as the gate is read
+  pub gate_read : {before now : ℕ} → before ≤ now → IsPublishing root start read before now
+  gate_read later = record {
+    moments = λ honest rest. read_gate root start read honest rest look.time look.unchanged;
+    others = λ honest k not_gate not_spare. other_read start read honest look.time look.unchanged k;
+    time = look.time.goes_on;
+    same_size = look.time.same_size;
+    failures = later;
+  }
+
+  module _ {bytes : List ℕ} {slot : Disk} {before then : ℕ} (is : IsTrue start.honest → bytes ≡ sector start.now.contents 1)
+      (put : IsWrittenElsewhere (λ k. k ≢ spare_by bytes) read slot) (later : before ≤ then) where
+    -- as far as the slot
+    pub slot_put : IsPublishing root start slot before then
+    slot_put = record {
+      moments = λ honest rest. put_slot root start read honest rest look.time look.unchanged _ slot (ap spare_by (is honest)) put.kept;
+      others = λ honest k not_gate not_spare. other_slot start read honest look.time look.unchanged k _ slot
+          (λ same. not_spare (same ∙ ap spare_by (is honest))) put.kept;
+      time = goes_on_trans look.time.goes_on put.time;
+      same_size = put.same_size ∙ look.time.same_size;
+      failures = later;
+    }
+
+    -- and to its end
+    pub gate_turned : {gate : Disk} {now : ℕ} → (IsTrue read.honest → sector slot.now.contents (spare_by bytes) ≡ root)
+        → (IsTrue read.honest → AllSynced slot.now) → IsWrittenElsewhere (λ k. k ≢ 1) slot gate → then ≤ now
+        → IsPublishing root start gate before now
+    gate_turned {gate} written synced turn last = record {
+      moments = λ honest rest. put_gate root start read honest rest look.time look.unchanged _ slot gate (ap spare_by (is honest))
+          put.kept written synced turn.kept;
+      others = λ honest k not_gate not_spare. other_gate start read honest look.time look.unchanged k _ slot gate not_gate
+          (λ same. not_spare (same ∙ ap spare_by (is honest))) put.kept turn.kept;
+      time = goes_on_trans slot_put.time turn.time;
+      same_size = turn.same_size ∙ slot_put.same_size;
+      failures = omega (arith, later, last);
+    }

@@ -1,7 +1,7 @@
 //! The gate: the low bit of its first byte picks one of the two root slots.
 ghost use Rattle.std.specs.Prelude.{◌≡◌, ◌≢◌, ◌<◌, OnOk, IfOk, IfErr, IsTrue};
-ghost use Rattle.sector_disk.specs.Disk.{size, sector, GoesOn, LeavesOnly, MayLeave, AllSynced, HasCause, IsCounted};
-ghost use Rattle.sector_disk.specs.lemmas.Disk.{KeepsThroughout};
+ghost use Rattle.sector_disk.specs.Disk.{size, sector, AllSynced, HasCause, IsCounted};
+ghost use Rattle.root_pair.specs.lemmas.Frames.{IsLookedAt, IsWrittenElsewhere};
 ghost use Rattle.root_pair.specs.Root.{slot_by, spare_by, turned};
 
 use crate::RootFault;
@@ -31,12 +31,7 @@ pub fn fetch_picked<D: SectorDisk>(disk: &mut D, gate: &[u8; 512]) -> Result<[u8
     ensures bytes { IsTrue (D.disk disk.old).honest
         → IfOk result (λ bytes. bytes ≡ sector (D.disk disk.old).now.contents (slot_by gate.now)) }
     ensures read { IfErr result (λ e. e ≡ RootFault.Read) }
-    ensures unchanged { IsTrue (D.disk disk.old).honest → (D.disk disk.new).now ≡ (D.disk disk.old).now }
-    ensures moments { IsTrue (D.disk disk.old).honest
-        → LeavesOnly (D.disk disk.old) (D.disk disk.new) (MayLeave (D.disk disk.old).now) }
-    ensures time { GoesOn (D.disk disk.old) (D.disk disk.new) }
-    ensures same_size { size (D.disk disk.new) ≡ size (D.disk disk.old) }
-    ensures spared { (D.disk disk.new).failed_writes ≡ (D.disk disk.old).failed_writes }
+    ensures left { IsLookedAt (D.disk disk.old) (D.disk disk.new) }
     ensures cause { HasCause (D.failures disk.old) (D.failures disk.new) result }
 {
     fetch(disk, picked_slot(gate))
@@ -52,10 +47,7 @@ pub fn put_spare<D: SectorDisk>(
     ensures synced { IsTrue (D.disk disk.old).honest → OnOk result (AllSynced (D.disk disk.new).now) }
     ensures written { IsTrue (D.disk disk.old).honest
         → OnOk result (sector (D.disk disk.new).now.contents (spare_by gate.now) ≡ root.now) }
-    ensures kept { IsTrue (D.disk disk.old).honest
-        → KeepsThroughout (λ k. k ≢ spare_by gate.now) (D.disk disk.old) (D.disk disk.new) }
-    ensures time { GoesOn (D.disk disk.old) (D.disk disk.new) }
-    ensures same_size { size (D.disk disk.new) ≡ size (D.disk disk.old) }
+    ensures left { IsWrittenElsewhere (λ k. k ≢ spare_by gate.now) (D.disk disk.old) (D.disk disk.new) }
     ensures counted { IsCounted (D.disk disk.old).failed_writes (D.disk disk.new).failed_writes result }
     ensures cause { HasCause (D.failures disk.old) (D.failures disk.new) result }
 {
@@ -69,9 +61,7 @@ pub fn turn_gate<D: SectorDisk>(disk: &mut D, gate: &[u8; 512]) -> Result<(), Di
     ensures written { IsTrue (D.disk disk.old).honest
         → OnOk result (sector (D.disk disk.new).now.contents 1 ≡ turned gate.now) }
     ensures synced { IsTrue (D.disk disk.old).honest → OnOk result (AllSynced (D.disk disk.new).now) }
-    ensures kept { IsTrue (D.disk disk.old).honest → KeepsThroughout (λ k. k ≢ 1) (D.disk disk.old) (D.disk disk.new) }
-    ensures time { GoesOn (D.disk disk.old) (D.disk disk.new) }
-    ensures same_size { size (D.disk disk.new) ≡ size (D.disk disk.old) }
+    ensures left { IsWrittenElsewhere (λ k. k ≢ 1) (D.disk disk.old) (D.disk disk.new) }
     ensures counted { IsCounted (D.disk disk.old).failed_writes (D.disk disk.new).failed_writes result }
     ensures cause { HasCause (D.failures disk.old) (D.failures disk.new) result }
 {

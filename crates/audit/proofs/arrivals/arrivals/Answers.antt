@@ -1,6 +1,6 @@
 use Rattle.audit.specs.Causes.{HasWide}
 use Rattle.table.proofs.Exits.{passed_on}
-use Rattle.audit.proofs.Exits.{of_memory, since}
+use Rattle.audit.proofs.Exits.{since}
 use Rattle.std.proofs.Common.{◌≡◌, ◌∙◌, ◌<◌, ◌^◌, suc, ap, subst, sym, ℕ, List, length, arith, refl}
 use Rattle.std.proofs.lemmas.List.{length-replicate}
 use Rattle.retrograde.specs.declared.records.Counts.{Counts}
@@ -57,12 +57,6 @@ returns-clause-arrivals g c = λ honest table.
     let all : c.loop-from.from ≡ expanded_count stored =
     omega (arith, expanded, known, expanded', known', few, c.min-from-end.ensures, c.loop-from-test.false, c.loop-from.auto.from-end) in
     subst (λ (p : ℕ). AreArrivals (g.M.GameGraph.graph c.args.source.now) stored p c.loop-from.arrivals.items) all (c.loop-from.invariant.arrivals honest table)
-
-pub returns-in_err-arrivals-clause-err : goal.returns-in_err-arrivals-clause-err
-returns-in_err-arrivals-clause-err g c = passed_on _ c.from_residual.result _ c.from_residual.ensures of_memory
-
-pub returns-in_err-count_moves-clause-read : goal.returns-in_err-count_moves-clause-read
-returns-in_err-count_moves-clause-read g c = read_then g.met.T.Table.stays_then c.loop-from.invariant.read c.in_err-count_moves.ensures.read
 
 pub returns-in_err-count_moves-clause-err : goal.returns-in_err-count_moves-clause-err
 returns-in_err-count_moves-clause-err g c =

@@ -1,4 +1,3 @@
-use Rattle.table.proofs.Exits.{passed_on}
 use Rattle.std.proofs.Common.{◌≡◌, ◌∙◌, subst, ℕ, List, true, arith, refl}
 use Rattle.std.proofs.lemmas.List.{length-map}
 use Rattle.arrayvec.specs.ArrayVec.{ArrayVec}
@@ -6,6 +5,7 @@ use Rattle.retrograde.specs.View.{HasNumber}
 use Rattle.retrograde.specs.Stored.{Stored, IsTable, view_of}
 use Rattle.table.specs.Memory.{bytes_of_each}
 use Rattle.audit.specs.lemmas.Edges.{CountsIf}
+use Rattle.audit.proofs.Exits.{fault_since}
 use Rattle.audit.proofs.ArrivalLemmas.{counted_none, counted_next, counted_all}
 use Rattle.audit.proofs.Lists.{item_at}
 use Rattle.table.proofs.Frames.{unread, read_then}
@@ -48,6 +48,5 @@ pub returns-in_err-count_one-clause-read : goal.returns-in_err-count_one-clause-
 returns-in_err-count_one-clause-read g c = read_then g.met.T.Table.stays_then c.loop-position.invariant.read c.in_err-count_one.ensures.read
 
 pub returns-in_err-count_one-clause-fault : goal.returns-in_err-count_one-clause-fault
-returns-in_err-count_one-clause-fault g c =
-    passed_on _ c.from_residual.result _ c.from_residual.ensures
-    (g.met.T.Table.fails_since _ _ _ _ (g.met.T.Table.stays_goes_on _ _ c.loop-position.invariant.read.stays) c.in_err-count_one.ensures.fault)
+returns-in_err-count_one-clause-fault g c = fault_since g.met.T.Table.stays_goes_on g.met.T.Table.fails_since
+    c.loop-position.invariant.read c.from_residual.result c.from_residual.ensures c.in_err-count_one.ensures.fault

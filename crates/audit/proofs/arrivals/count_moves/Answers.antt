@@ -1,6 +1,6 @@
 use Rattle.legal_moves.specs.declared.fault.MoveFault.{MoveFault}
 use Rattle.table.proofs.Exits.{passed_on}
-use Rattle.audit.proofs.Exits.{of_search, of_table}
+use Rattle.audit.proofs.Exits.{of_search, of_table, table_since}
 use Rattle.std.proofs.Common.{◌≡◌, ◌≢◌, ap, subst, ℕ, List, true, Err}
 use Rattle.std.specs.Prelude.{AllPairs, Contains}
 use Rattle.retrograde.specs.View.{HasNumber}
@@ -43,10 +43,9 @@ pub returns-in_err-count_each-clause-read : goal.returns-in_err-count_each-claus
 returns-in_err-count_each-clause-read g c = read_then g.met.T.Table.stays_then c.in_ok-packed.ensures.read c.in_err-count_each.ensures.read
 
 pub returns-in_err-count_each-clause-err : goal.returns-in_err-count_each-clause-err
-returns-in_err-count_each-clause-err g c =
-    passed_on _ c.from_residual-in_err-count_each.result _ c.from_residual-in_err-count_each.ensures
-    (of_table c.in_err-count_each.ensures.room
-    (g.met.T.Table.fails_since _ _ _ _ (g.met.T.Table.stays_goes_on _ _ c.in_ok-packed.ensures.read.stays) c.in_err-count_each.ensures.fault))
+returns-in_err-count_each-clause-err g c = table_since g.met.T.Table.stays_goes_on g.met.T.Table.fails_since
+    c.in_ok-packed.ensures.read
+    _ c.from_residual-in_err-count_each.result c.from_residual-in_err-count_each.ensures c.in_err-count_each.ensures.room c.in_err-count_each.ensures.fault
 
 pub returns-clause-read : goal.returns-clause-read
 returns-clause-read g c = read_then g.met.T.Table.stays_then c.in_ok-packed.ensures.read c.in_ok-count_each.ensures.read

@@ -1,8 +1,7 @@
-use Rattle.table.proofs.Exits.{passed_on}
 use Rattle.std.proofs.Common.{◌≡◌, ◌<◌, ap, subst, ℕ, List, Some, true, false, length, rules, arith, slice_get, slice_set}
 use Rattle.retrograde.specs.Stored.{Stored}
+use Rattle.audit.proofs.Exits.{fault_since}
 use Rattle.audit.proofs.ArrivalLemmas.{unknown_counted, none_counted, one_counted}
-use Rattle.table.proofs.Frames.{read_then}
 use Rattle.audit.proofs.arrivals.count_one.Goals as goal
 
 pub returns-in_default-clause-counted : goal.returns-in_default-clause-counted
@@ -35,16 +34,6 @@ returns-clause-counted g c = λ honest table i x at.
     one_counted stored i c.args.from x c.args.position.now.items at table c.in-Some.number found c.args.arrivals.now.items _
     c.index-count.result.now edge within c.index-count.ensures (ap (λ (m : ℕ). slice_set c.args.arrivals.now.items c.in-Some.number m) c.saturating_add.ensures)
 
-pub returns-in_err-has_edge-clause-read : goal.returns-in_err-has_edge-clause-read
-returns-in_err-has_edge-clause-read g c = read_then g.met.T.Table.stays_then c.in_ok-number.ensures.read c.in_err-has_edge.ensures.read
-
 pub returns-in_err-has_edge-clause-fault : goal.returns-in_err-has_edge-clause-fault
-returns-in_err-has_edge-clause-fault g c =
-    passed_on _ c.from_residual-in_err-has_edge.result _ c.from_residual-in_err-has_edge.ensures
-    (g.met.T.Table.fails_since _ _ _ _ (g.met.T.Table.stays_goes_on _ _ c.in_ok-number.ensures.read.stays) c.in_err-has_edge.ensures.fault)
-
-pub returns-then-not-branch-clause-read : goal.returns-then-not-branch-clause-read
-returns-then-not-branch-clause-read g c = read_then g.met.T.Table.stays_then c.in_ok-number.ensures.read c.in_ok-has_edge.ensures.read
-
-pub returns-clause-read : goal.returns-clause-read
-returns-clause-read g c = read_then g.met.T.Table.stays_then c.in_ok-number.ensures.read c.in_ok-has_edge.ensures.read
+returns-in_err-has_edge-clause-fault g c = fault_since g.met.T.Table.stays_goes_on g.met.T.Table.fails_since
+    c.in_ok-number.ensures.read c.from_residual-in_err-has_edge.result c.from_residual-in_err-has_edge.ensures c.in_err-has_edge.ensures.fault

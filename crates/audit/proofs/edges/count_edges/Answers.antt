@@ -1,8 +1,8 @@
-use Rattle.table.proofs.Exits.{passed_on}
 use Rattle.std.proofs.Common.{◌≡◌, ◌<◌, ap, length, subst, List, ℕ, arith}
 use Rattle.retrograde.specs.declared.records.Counts.{Counts}
 use Rattle.retrograde.specs.Stored.{Stored, count_below}
 use Rattle.retrograde.specs.Edges.{IsAfter, IsNextEdge, HasNoMoreEdges}
+use Rattle.audit.proofs.Exits.{fault_since}
 use Rattle.audit.proofs.EdgeLemmas.{count_next, count_all, count_full, after_bound}
 use Rattle.table.proofs.Frames.{read_then}
 use Rattle.audit.proofs.edges.count_edges.Goals as goal
@@ -43,13 +43,6 @@ returns-clause-count g c = λ honest.
     let same : c.counts-known.result.known ≡ size = omega (arith, count, all) in
     rw same it
 
-pub returns-in_err-from-clause-read : goal.returns-in_err-from-clause-read
-returns-in_err-from-clause-read g c = read_then g.met.T.Table.stays_then c.loop-count.invariant.read c.in_err-from.ensures.read
-
 pub returns-in_err-from-clause-fault : goal.returns-in_err-from-clause-fault
-returns-in_err-from-clause-fault g c =
-    passed_on _ c.from_residual.result _ c.from_residual.ensures
-    (g.met.T.Table.fails_since _ _ _ _ (g.met.T.Table.stays_goes_on _ _ c.loop-count.invariant.read.stays) c.in_err-from.ensures.fault)
-
-pub returns-in_default-clause-read : goal.returns-in_default-clause-read
-returns-in_default-clause-read g c = read_then g.met.T.Table.stays_then c.loop-count.invariant.read c.in_ok-from.ensures.read
+returns-in_err-from-clause-fault g c = fault_since g.met.T.Table.stays_goes_on g.met.T.Table.fails_since c.loop-count.invariant.read c.from_residual.result
+    c.from_residual.ensures c.in_err-from.ensures.fault

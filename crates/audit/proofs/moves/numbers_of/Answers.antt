@@ -1,5 +1,5 @@
 use Rattle.table.proofs.Exits.{passed_on}
-use Rattle.audit.proofs.Exits.{of_memory, of_table}
+use Rattle.audit.proofs.Exits.{of_memory, table_since}
 use Rattle.std.proofs.Common.{◌≡◌, ◌<◌, ◌++◌, ◌∷◌, [], ap, subst, ℕ, List, Some, slice_get, arith, take}
 use Rattle.arrayvec.specs.ArrayVec.{ArrayVec}
 use Rattle.retrograde.specs.declared.records.Counts.{Counts}
@@ -48,10 +48,8 @@ pub returns-in_err-number-clause-read : goal.returns-in_err-number-clause-read
 returns-in_err-number-clause-read g c = read_then g.met.T.Table.stays_then c.loop-position.invariant.read c.in_err-number.ensures.read
 
 pub returns-in_err-number-clause-err : goal.returns-in_err-number-clause-err
-returns-in_err-number-clause-err g c =
-    passed_on _ c.from_residual.result _ c.from_residual.ensures
-    (of_table c.in_err-number.ensures.room
-    (g.met.T.Table.fails_since _ _ _ _ (g.met.T.Table.stays_goes_on _ _ c.loop-position.invariant.read.stays) c.in_err-number.ensures.fault))
+returns-in_err-number-clause-err g c = table_since g.met.T.Table.stays_goes_on g.met.T.Table.fails_since c.loop-position.invariant.read _ c.from_residual.result
+    c.from_residual.ensures c.in_err-number.ensures.room c.in_err-number.ensures.fault
 
 pub returns-in_default-clause-read : goal.returns-in_default-clause-read
 returns-in_default-clause-read g c = read_then g.met.T.Table.stays_then c.loop-position.invariant.read c.in_ok-number.ensures.read

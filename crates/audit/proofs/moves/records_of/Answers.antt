@@ -1,5 +1,5 @@
 use Rattle.table.proofs.Exits.{passed_on}
-use Rattle.audit.proofs.Exits.{of_memory, of_table}
+use Rattle.audit.proofs.Exits.{of_memory, table_since}
 use Rattle.std.proofs.Common.{◌≡◌, ◌++◌, ◌∷◌, [], subst, ℕ, List, take, get_or}
 use Rattle.std.proofs.lemmas.List.{take_more}
 use Rattle.retrograde.specs.Stored.{Stored, HasRecord}
@@ -27,10 +27,8 @@ pub returns-in_err-record-clause-read : goal.returns-in_err-record-clause-read
 returns-in_err-record-clause-read g c = read_then g.met.T.Table.stays_then c.loop-number.invariant.read c.in_err-record.ensures.read
 
 pub returns-in_err-record-clause-err : goal.returns-in_err-record-clause-err
-returns-in_err-record-clause-err g c =
-    passed_on _ c.from_residual.result _ c.from_residual.ensures
-    (of_table c.in_err-record.ensures.room
-    (g.met.T.Table.fails_since _ _ _ _ (g.met.T.Table.stays_goes_on _ _ c.loop-number.invariant.read.stays) c.in_err-record.ensures.fault))
+returns-in_err-record-clause-err g c = table_since g.met.T.Table.stays_goes_on g.met.T.Table.fails_since c.loop-number.invariant.read _ c.from_residual.result
+    c.from_residual.ensures c.in_err-record.ensures.room c.in_err-record.ensures.fault
 
 pub returns-in_err-push-clause-read : goal.returns-in_err-push-clause-read
 returns-in_err-push-clause-read g c = read_then g.met.T.Table.stays_then c.loop-number.invariant.read c.in_ok-record.ensures.read

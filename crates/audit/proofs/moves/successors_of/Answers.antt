@@ -1,6 +1,6 @@
 use Rattle.legal_moves.specs.declared.fault.MoveFault.{MoveFault}
 use Rattle.table.proofs.Exits.{passed_on}
-use Rattle.audit.proofs.Exits.{of_search, of_table, since}
+use Rattle.audit.proofs.Exits.{of_search, since, table_since}
 use Rattle.std.proofs.Common.{◌≡◌, ◌∙◌, ◌↔◌, rules, subst, ℕ, List, true, false, All, ap, refl, Err}
 use Rattle.std.specs.List.{AllZip}
 use Rattle.retrograde.specs.Stored.{Stored, HasRecord}
@@ -74,10 +74,9 @@ pub returns-in_err-has_edges-clause-read : goal.returns-in_err-has_edges-clause-
 returns-in_err-has_edges-clause-read g c = read_then g.met.T.Table.stays_then c.in_ok-numbers.ensures.read c.in_err-has_edges.ensures.read
 
 pub returns-in_err-has_edges-clause-err : goal.returns-in_err-has_edges-clause-err
-returns-in_err-has_edges-clause-err g c =
-    passed_on _ c.from_residual-in_err-has_edges.result _ c.from_residual-in_err-has_edges.ensures
-    (of_table c.in_err-has_edges.ensures.room
-    (g.met.T.Table.fails_since _ _ _ _ (g.met.T.Table.stays_goes_on _ _ c.in_ok-numbers.ensures.read.stays) c.in_err-has_edges.ensures.fault))
+returns-in_err-has_edges-clause-err g c = table_since g.met.T.Table.stays_goes_on g.met.T.Table.fails_since
+    c.in_ok-numbers.ensures.read
+    _ c.from_residual-in_err-has_edges.result c.from_residual-in_err-has_edges.ensures c.in_err-has_edges.ensures.room c.in_err-has_edges.ensures.fault
 
 pub returns-in_err-records-clause-read : goal.returns-in_err-records-clause-read
 returns-in_err-records-clause-read g c =

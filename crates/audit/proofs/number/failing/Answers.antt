@@ -1,10 +1,8 @@
-use Rattle.table.proofs.Exits.{passed_on}
-use Rattle.audit.proofs.Exits.{of_table}
+use Rattle.audit.proofs.Exits.{table_since}
 use Rattle.std.proofs.Common.{◌≡◌, ◌∙◌, sym, subst, ℕ, List, length}
 use Rattle.retrograde.specs.Stored.{Stored, count_below}
 use Rattle.audit.proofs.ArrivalLemmas.{edges_are_moves, as_many_edges}
 use Rattle.audit.proofs.LowestLemmas.{stray_lower, stray_there, no_stray}
-use Rattle.table.proofs.Frames.{read_then}
 use Rattle.audit.proofs.number.failing.Goals as goal
 
 pub returns-then-is_lower-clause-lowest : goal.returns-then-is_lower-clause-lowest
@@ -33,17 +31,7 @@ returns-clause-lowest g c = λ honest table floor x at arriving.
     no_stray graph stored c.args.number x c.in_ok-own.own (c.is_lower.ensures.other c.if-is_lower.false).1 (c.in_ok-own.ensures.lowest honest table floor x at)
     (edges_are_moves graph stored c.args.number x table c.args.arriving arriving (sym c.if-branch-arriving.false ∙ count))
 
-pub returns-in_err-count_edges-clause-read : goal.returns-in_err-count_edges-clause-read
-returns-in_err-count_edges-clause-read g c = read_then g.met.T.Table.stays_then c.in_ok-own.ensures.read c.in_err-count_edges.ensures.read
-
 pub returns-in_err-count_edges-clause-err : goal.returns-in_err-count_edges-clause-err
-returns-in_err-count_edges-clause-err g c =
-    passed_on _ c.from_residual-in_err-count_edges.result _ c.from_residual-in_err-count_edges.ensures
-    (of_table c.in_err-count_edges.ensures.room
-    (g.met.T.Table.fails_since _ _ _ _ (g.met.T.Table.stays_goes_on _ _ c.in_ok-own.ensures.read.stays) c.in_err-count_edges.ensures.fault))
-
-pub returns-then-branch-arriving-clause-read : goal.returns-then-branch-arriving-clause-read
-returns-then-branch-arriving-clause-read g c = read_then g.met.T.Table.stays_then c.in_ok-own.ensures.read c.in_ok-count_edges.ensures.read
-
-pub returns-clause-read : goal.returns-clause-read
-returns-clause-read g c = read_then g.met.T.Table.stays_then c.in_ok-own.ensures.read c.in_ok-count_edges.ensures.read
+returns-in_err-count_edges-clause-err g c = table_since g.met.T.Table.stays_goes_on g.met.T.Table.fails_since
+    c.in_ok-own.ensures.read
+    _ c.from_residual-in_err-count_edges.result c.from_residual-in_err-count_edges.ensures c.in_err-count_edges.ensures.room c.in_err-count_edges.ensures.fault

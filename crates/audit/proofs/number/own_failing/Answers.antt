@@ -1,5 +1,5 @@
 use Rattle.table.proofs.Exits.{passed_on}
-use Rattle.audit.proofs.Exits.{of_table, since}
+use Rattle.audit.proofs.Exits.{since, table_since}
 use Rattle.std.proofs.Common.{◌≡◌, ◌∙◌, ◌↔◌, sym, subst, rules, ℕ, List, true, ◌<◌}
 use Rattle.std.proofs.lemmas.Option.{same_Some}
 use Rattle.retrograde.specs.Audit.{IsReached}
@@ -28,17 +28,9 @@ returns-clause-lowest g c = λ honest table floor x at.
     → IsReached graph t c.args.number y → IsLowest (own_condition graph t c.args.number y) c.in_ok-reason.reason) same3 (c.in_ok-reason.ensures.lowest h3) in
     subst (λ (z : List ℕ). IsLowest (own_condition graph stored c.args.number z) c.in_ok-reason.reason) here (lowest table has floor (reached.0 there))
 
-pub returns-in_err-at-clause-err : goal.returns-in_err-at-clause-err
-returns-in_err-at-clause-err g c = passed_on _ c.from_residual.result _ c.from_residual.ensures (of_table c.in_err-at.ensures.room c.in_err-at.ensures.fault)
-
-pub returns-in_err-kept-clause-read : goal.returns-in_err-kept-clause-read
-returns-in_err-kept-clause-read g c = read_then g.met.T.Table.stays_then c.in_ok-at.ensures.read c.in_err-kept.ensures.read
-
 pub returns-in_err-kept-clause-err : goal.returns-in_err-kept-clause-err
-returns-in_err-kept-clause-err g c =
-    passed_on _ c.from_residual-in_err-kept.result _ c.from_residual-in_err-kept.ensures
-    (of_table c.in_err-kept.ensures.room
-    (g.met.T.Table.fails_since _ _ _ _ (g.met.T.Table.stays_goes_on _ _ c.in_ok-at.ensures.read.stays) c.in_err-kept.ensures.fault))
+returns-in_err-kept-clause-err g c = table_since g.met.T.Table.stays_goes_on g.met.T.Table.fails_since
+    c.in_ok-at.ensures.read _ c.from_residual-in_err-kept.result c.from_residual-in_err-kept.ensures c.in_err-kept.ensures.room c.in_err-kept.ensures.fault
 
 pub returns-in_err-is_reached-clause-read : goal.returns-in_err-is_reached-clause-read
 returns-in_err-is_reached-clause-read g c =
@@ -47,12 +39,9 @@ returns-in_err-is_reached-clause-read g c =
     c.in_err-is_reached.ensures.read
 
 pub returns-in_err-is_reached-clause-err : goal.returns-in_err-is_reached-clause-err
-returns-in_err-is_reached-clause-err g c =
-    passed_on _ c.from_residual-in_err-is_reached.result _ c.from_residual-in_err-is_reached.ensures
-    (of_table c.in_err-is_reached.ensures.room
-    (g.met.T.Table.fails_since _ _ _ _
-    (g.met.T.Table.stays_goes_on _ _ (g.met.T.Table.stays_then _ _ _ c.in_ok-at.ensures.read.stays c.in_ok-kept.ensures.read.stays))
-    c.in_err-is_reached.ensures.fault))
+returns-in_err-is_reached-clause-err g c = table_since g.met.T.Table.stays_goes_on g.met.T.Table.fails_since
+    (read_then g.met.T.Table.stays_then c.in_ok-at.ensures.read c.in_ok-kept.ensures.read)
+    _ c.from_residual-in_err-is_reached.result c.from_residual-in_err-is_reached.ensures c.in_err-is_reached.ensures.room c.in_err-is_reached.ensures.fault
 
 pub returns-in_err-reason-clause-read : goal.returns-in_err-reason-clause-read
 returns-in_err-reason-clause-read g c =

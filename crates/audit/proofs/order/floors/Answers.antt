@@ -1,5 +1,4 @@
-use Rattle.table.proofs.Exits.{passed_on}
-use Rattle.audit.proofs.Exits.{of_table}
+use Rattle.audit.proofs.Exits.{table_since}
 use Rattle.std.proofs.Common.{◌≡◌, ◌<◌, sym, ap, subst, ℕ, List, Some, length, arith, slice_get, slice_set, ◌∙◌}
 use Rattle.retrograde.specs.declared.records.Counts.{Counts}
 use Rattle.retrograde.specs.Stored.{Stored, IsTable}
@@ -45,7 +44,5 @@ pub returns-in_err-last-clause-read : goal.returns-in_err-last-clause-read
 returns-in_err-last-clause-read g c = read_then g.met.T.Table.stays_then c.loop-place.invariant.read c.in_err-last.ensures.read
 
 pub returns-in_err-last-clause-err : goal.returns-in_err-last-clause-err
-returns-in_err-last-clause-err g c =
-    passed_on _ c.from_residual-in_err-last.result _ c.from_residual-in_err-last.ensures
-    (of_table c.in_err-last.ensures.room
-    (g.met.T.Table.fails_since _ _ _ _ (g.met.T.Table.stays_goes_on _ _ c.loop-place.invariant.read.stays) c.in_err-last.ensures.fault))
+returns-in_err-last-clause-err g c = table_since g.met.T.Table.stays_goes_on g.met.T.Table.fails_since
+    c.loop-place.invariant.read _ c.from_residual-in_err-last.result c.from_residual-in_err-last.ensures c.in_err-last.ensures.room c.in_err-last.ensures.fault

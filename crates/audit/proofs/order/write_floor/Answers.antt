@@ -1,10 +1,10 @@
-use Rattle.table.proofs.Exits.{passed_on}
 use Rattle.std.proofs.Common.{◌≡◌, ◌∙◌, ◌<◌, sym, ap, subst, ℕ, List, Option, Some, length, arith, slice_get, slice_set}
 use Rattle.std.proofs.lemmas.Option.{same_Some}
 use Rattle.retrograde.specs.declared.records.Counts.{Counts}
 use Rattle.retrograde.specs.declared.records.Record.{Record}
 use Rattle.retrograde.specs.Stored.{Stored}
 use Rattle.audit.specs.lemmas.Conditions.{distance_in}
+use Rattle.audit.proofs.Exits.{fault_since}
 use Rattle.audit.proofs.FloorLemmas.{in_range}
 use Rattle.table.proofs.Frames.{read_then}
 use Rattle.audit.proofs.order.write_floor.Goals as goal
@@ -36,9 +36,8 @@ pub returns-in_err-record-clause-read : goal.returns-in_err-record-clause-read
 returns-in_err-record-clause-read g c = read_then g.met.T.Table.stays_then c.in_ok-number.ensures.read c.in_err-record.ensures.read
 
 pub returns-in_err-record-clause-fault : goal.returns-in_err-record-clause-fault
-returns-in_err-record-clause-fault g c =
-    passed_on _ c.from_residual-in_err-record.result _ c.from_residual-in_err-record.ensures
-    (g.met.T.Table.fails_since _ _ _ _ (g.met.T.Table.stays_goes_on _ _ c.in_ok-number.ensures.read.stays) c.in_err-record.ensures.fault)
+returns-in_err-record-clause-fault g c = fault_since g.met.T.Table.stays_goes_on g.met.T.Table.fails_since
+    c.in_ok-number.ensures.read c.from_residual-in_err-record.result c.from_residual-in_err-record.ensures c.in_err-record.ensures.fault
 
 pub returns-clause-read : goal.returns-clause-read
 returns-clause-read g c = read_then g.met.T.Table.stays_then c.in_ok-number.ensures.read c.in_ok-record.ensures.read

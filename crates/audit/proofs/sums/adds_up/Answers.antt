@@ -1,6 +1,5 @@
-use Rattle.audit.specs.Causes.{HasWide}
 use Rattle.table.proofs.Exits.{passed_on}
-use Rattle.audit.proofs.Exits.{since}
+use Rattle.audit.proofs.Exits.{cause_since}
 use Rattle.std.proofs.Common.{◌≡◌, ◌∙◌, ◌<◌, ap, subst, rules, ℕ, List, None, refl, true, eqb, length, slice_get, get_or, arith}
 use Rattle.std.proofs.lemmas.Option.{slice_get-get_or}
 use Rattle.retrograde.specs.declared.records.Counts.{Counts}
@@ -64,17 +63,7 @@ loop-number-preserved g c = record {
       own_more graph IsWide stored c.loop-number.number (c.loop-number.invariant.sound honest table floors) (holds' table floor) narrow';
 }
 
-pub returns-in_err-tally-clause-read : goal.returns-in_err-tally-clause-read
-returns-in_err-tally-clause-read g c = read_then g.met.T.Table.stays_then c.loop-number.invariant.read c.in_err-tally.ensures.read
-
 pub returns-in_err-tally-clause-err : goal.returns-in_err-tally-clause-err
 returns-in_err-tally-clause-err g c =
     passed_on _ c.from_residual.result _ c.from_residual.ensures
-    (since (λ wide honest.
-    subst (λ (t : Stored (List ℕ)). HasWide (g.M.GameGraph.is_wide c.args.source.now) t) (c.loop-number.invariant.read.same honest)
-    (wide (c.loop-number.invariant.read.honest.0 honest)))
-    (λ fault. g.met.T.Table.fails_since _ _ _ fault (g.met.T.Table.stays_goes_on _ _ c.loop-number.invariant.read.stays))
-    c.in_err-tally.ensures.err)
-
-pub returns-in_default-clause-read : goal.returns-in_default-clause-read
-returns-in_default-clause-read g c = read_then g.met.T.Table.stays_then c.loop-number.invariant.read c.in_ok-tally.ensures.read
+    (cause_since g.met.T.Table.stays_goes_on g.met.T.Table.fails_since c.loop-number.invariant.read c.in_err-tally.ensures.err)

@@ -1,8 +1,5 @@
-use Rattle.std.proofs.Common.{subst, ◌∙◌, List, ℕ}
-use Rattle.retrograde.specs.Stored.{Stored}
-use Rattle.audit.specs.Causes.{HasWide}
 use Rattle.table.proofs.Exits.{passed_on}
-use Rattle.audit.proofs.Exits.{of_table, since}
+use Rattle.audit.proofs.Exits.{of_table, table_since, cause_since}
 use Rattle.table.proofs.Frames.{read_then}
 use Rattle.audit.proofs.sums.tally_of.Goals as goal
 
@@ -14,10 +11,9 @@ pub returns-in_err-moves-clause-read : goal.returns-in_err-moves-clause-read
 returns-in_err-moves-clause-read g c = read_then g.met.T.Table.stays_then c.in_ok-edges.ensures.read c.in_err-moves.ensures.read
 
 pub returns-in_err-moves-clause-err : goal.returns-in_err-moves-clause-err
-returns-in_err-moves-clause-err g c =
-    passed_on _ c.from_residual-in_err-moves.result _ c.from_residual-in_err-moves.ensures
-    (of_table c.in_err-moves.ensures.room
-    (g.met.T.Table.fails_since _ _ _ _ (g.met.T.Table.stays_goes_on _ _ c.in_ok-edges.ensures.read.stays) c.in_err-moves.ensures.fault))
+returns-in_err-moves-clause-err g c = table_since g.met.T.Table.stays_goes_on g.met.T.Table.fails_since
+    c.in_ok-edges.ensures.read _ c.from_residual-in_err-moves.result c.from_residual-in_err-moves.ensures
+    c.in_err-moves.ensures.room c.in_err-moves.ensures.fault
 
 pub returns-in_err-own_failing-clause-read : goal.returns-in_err-own_failing-clause-read
 returns-in_err-own_failing-clause-read g c =
@@ -28,13 +24,8 @@ returns-in_err-own_failing-clause-read g c =
 pub returns-in_err-own_failing-clause-err : goal.returns-in_err-own_failing-clause-err
 returns-in_err-own_failing-clause-err g c =
     passed_on _ c.from_residual-in_err-own_failing.result _ c.from_residual-in_err-own_failing.ensures
-    (since (λ wide honest.
-    let h = c.in_ok-edges.ensures.read.honest.0 honest in
-    subst (λ (t : Stored (List ℕ)). HasWide (g.M.GameGraph.is_wide c.args.source.now) t)
-    (c.in_ok-moves.ensures.read.same h ∙ c.in_ok-edges.ensures.read.same honest) (wide (c.in_ok-moves.ensures.read.honest.0 h)))
-    (λ fault. g.met.T.Table.fails_since _ _ _ fault
-    (g.met.T.Table.stays_goes_on _ _ (g.met.T.Table.stays_then _ _ _ c.in_ok-edges.ensures.read.stays c.in_ok-moves.ensures.read.stays)))
-    c.in_err-own_failing.ensures.err)
+    (cause_since g.met.T.Table.stays_goes_on g.met.T.Table.fails_since
+    (read_then g.met.T.Table.stays_then c.in_ok-edges.ensures.read c.in_ok-moves.ensures.read) c.in_err-own_failing.ensures.err)
 
 pub returns-then-is_some-clause-read : goal.returns-then-is_some-clause-read
 returns-then-is_some-clause-read g c =

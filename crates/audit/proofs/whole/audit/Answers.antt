@@ -1,6 +1,5 @@
-use Rattle.audit.specs.Causes.{HasWide}
-use Rattle.table.proofs.Exits.{not_this, passed_on}
-use Rattle.audit.proofs.Exits.{of_table_after}
+use Rattle.table.proofs.Exits.{fault_then, passed_on}
+use Rattle.audit.proofs.Exits.{since, cause_since}
 use Rattle.std.proofs.Common.{◌≡◌, ◌∙◌, subst, ℕ, List, Bool, true, length}
 use Rattle.std.specs.Prelude.{IfOk, Ok}
 use Rattle.std.specs.declared.result.Result.{Result}
@@ -102,52 +101,11 @@ returns-clause-so g c = λ honest table is.
     (c.in_ok-arrivals.ensures.read.same h2 ∙ same2) (rw (c.deref-2.ensures.value, c.deref-3.ensures.value) at c.first_wrong.ensures.answer h3) in
     right_so graph IsWide stored table (rw is at answer table (c.in_ok-floors.ensures.floors honest table) (arrivals table))
 
-pub returns-in_err-floors-clause-wide : goal.returns-in_err-floors-clause-wide
-returns-in_err-floors-clause-wide g c =
-    λ honest is. absurd (c.in_err-floors.ensures.err.wide (not_this c.from_residual.result _ _ c.from_residual.ensures is))
-
-pub returns-in_err-adds_up-clause-read : goal.returns-in_err-adds_up-clause-read
-returns-in_err-adds_up-clause-read g c = read_then g.met.T.Table.stays_then c.in_ok-floors.ensures.read c.in_err-adds_up.ensures.read
-
-pub returns-in_err-adds_up-clause-fault : goal.returns-in_err-adds_up-clause-fault
-returns-in_err-adds_up-clause-fault g c =
-    passed_on _ c.from_residual-in_err-adds_up.result _ c.from_residual-in_err-adds_up.ensures
-    (of_table_after _ _ _
-    (λ fault. g.met.T.Table.fails_since _ _ _ fault
-    (g.met.T.Table.stays_goes_on _ _ c.in_ok-floors.ensures.read.stays)) c.in_err-adds_up.ensures.err.fault)
-
-pub returns-in_err-adds_up-clause-wide : goal.returns-in_err-adds_up-clause-wide
-returns-in_err-adds_up-clause-wide g c =
-    λ honest is.
-    subst (λ (t : Stored (List ℕ)). HasWide (g.M.GameGraph.is_wide c.args.source.now) t) (c.in_ok-floors.ensures.read.same honest)
-    (c.in_err-adds_up.ensures.err.wide
-    (not_this c.from_residual-in_err-adds_up.result _ _ c.from_residual-in_err-adds_up.ensures is) (c.in_ok-floors.ensures.read.honest.0 honest))
-
-pub returns-then-branch-clause-read : goal.returns-then-branch-clause-read
-returns-then-branch-clause-read g c = read_then g.met.T.Table.stays_then c.in_ok-floors.ensures.read c.in_ok-adds_up.ensures.read
-
 pub returns-in_err-arrivals-clause-read : goal.returns-in_err-arrivals-clause-read
 returns-in_err-arrivals-clause-read g c =
     read_then g.met.T.Table.stays_then
     (read_then g.met.T.Table.stays_then c.in_ok-floors.ensures.read c.in_ok-adds_up.ensures.read)
     c.in_err-arrivals.ensures.read
-
-pub returns-in_err-arrivals-clause-fault : goal.returns-in_err-arrivals-clause-fault
-returns-in_err-arrivals-clause-fault g c =
-    passed_on _ c.from_residual-in_err-arrivals.result _ c.from_residual-in_err-arrivals.ensures
-    (of_table_after _ _ _
-    (λ fault. g.met.T.Table.fails_since _ _ _ fault
-    (g.met.T.Table.stays_goes_on _ _ (g.met.T.Table.stays_then _ _ _ c.in_ok-floors.ensures.read.stays c.in_ok-adds_up.ensures.read.stays)))
-    c.in_err-arrivals.ensures.err.fault)
-
-pub returns-in_err-arrivals-clause-wide : goal.returns-in_err-arrivals-clause-wide
-returns-in_err-arrivals-clause-wide g c =
-    λ honest is.
-    let h1 = c.in_ok-floors.ensures.read.honest.0 honest in
-    subst (λ (t : Stored (List ℕ)). HasWide (g.M.GameGraph.is_wide c.args.source.now) t)
-    (c.in_ok-adds_up.ensures.read.same h1 ∙ c.in_ok-floors.ensures.read.same honest)
-    (c.in_err-arrivals.ensures.err.wide
-    (not_this c.from_residual-in_err-arrivals.result _ _ c.from_residual-in_err-arrivals.ensures is) (c.in_ok-adds_up.ensures.read.honest.0 h1))
 
 pub returns-clause-read : goal.returns-clause-read
 returns-clause-read g c =
@@ -155,3 +113,25 @@ returns-clause-read g c =
     (read_then g.met.T.Table.stays_then (read_then g.met.T.Table.stays_then c.in_ok-floors.ensures.read c.in_ok-adds_up.ensures.read)
     c.in_ok-arrivals.ensures.read)
     c.first_wrong.ensures.read
+
+pub returns-in_err-floors-clause-err : goal.returns-in_err-floors-clause-err
+returns-in_err-floors-clause-err g c =
+    passed_on _ c.from_residual.result _ c.from_residual.ensures (since (λ none. absurd none) (λ f why. why) c.in_err-floors.ensures.err)
+
+pub returns-in_err-adds_up-clause-err : goal.returns-in_err-adds_up-clause-err
+returns-in_err-adds_up-clause-err g c =
+    passed_on _ c.from_residual-in_err-adds_up.result _ c.from_residual-in_err-adds_up.ensures
+    (cause_since g.met.T.Table.stays_goes_on g.met.T.Table.fails_since c.in_ok-floors.ensures.read c.in_err-adds_up.ensures.err)
+
+pub returns-in_err-arrivals-clause-err : goal.returns-in_err-arrivals-clause-err
+returns-in_err-arrivals-clause-err g c =
+    passed_on _ c.from_residual-in_err-arrivals.result _ c.from_residual-in_err-arrivals.ensures
+    (cause_since g.met.T.Table.stays_goes_on g.met.T.Table.fails_since
+    (read_then g.met.T.Table.stays_then c.in_ok-floors.ensures.read c.in_ok-adds_up.ensures.read) c.in_err-arrivals.ensures.err)
+
+pub returns-clause-err : goal.returns-clause-err
+returns-clause-err g c =
+    fault_then c.first_wrong.result
+    (λ f why. cause_since g.met.T.Table.stays_goes_on g.met.T.Table.fails_since
+    (read_then g.met.T.Table.stays_then (read_then g.met.T.Table.stays_then c.in_ok-floors.ensures.read c.in_ok-adds_up.ensures.read)
+    c.in_ok-arrivals.ensures.read) why) c.first_wrong.ensures.err

@@ -1,6 +1,5 @@
-use Rattle.audit.specs.Causes.{HasWide}
 use Rattle.table.proofs.Exits.{passed_on}
-use Rattle.audit.proofs.Exits.{since}
+use Rattle.audit.proofs.Exits.{cause_since}
 use Rattle.std.proofs.Common.{◌<◌, ap, subst, rules, ℕ, List, Option, refl, length, get_or, arith}
 use Rattle.std.proofs.lemmas.Option.{slice_get-get_or}
 use Rattle.retrograde.specs.declared.records.Counts.{Counts}
@@ -69,17 +68,7 @@ returns-clause-answer g c = λ honest table floors arrivals.
     all_right (g.M.GameGraph.graph c.args.source.now) (g.M.GameGraph.is_wide c.args.source.now) (g.T.Table.stored c.args.table.now) c.loop-number.number
     (omega (arith, read, count, c.loop-number-test.false)) (c.loop-number.invariant.sound honest table floors arrivals)
 
-pub returns-in_err-reason-clause-read : goal.returns-in_err-reason-clause-read
-returns-in_err-reason-clause-read g c = read_then g.met.T.Table.stays_then c.loop-number.invariant.read c.in_err-reason.ensures.read
-
 pub returns-in_err-reason-clause-err : goal.returns-in_err-reason-clause-err
 returns-in_err-reason-clause-err g c =
     passed_on _ c.from_residual.result _ c.from_residual.ensures
-    (since (λ wide honest.
-    subst (λ (t : Stored (List ℕ)). HasWide (g.M.GameGraph.is_wide c.args.source.now) t) (c.loop-number.invariant.read.same honest)
-    (wide (c.loop-number.invariant.read.honest.0 honest)))
-    (λ fault. g.met.T.Table.fails_since _ _ _ fault (g.met.T.Table.stays_goes_on _ _ c.loop-number.invariant.read.stays))
-    c.in_err-reason.ensures.err)
-
-pub returns-in-Some-clause-read : goal.returns-in-Some-clause-read
-returns-in-Some-clause-read g c = read_then g.met.T.Table.stays_then c.loop-number.invariant.read c.in_ok-reason.ensures.read
+    (cause_since g.met.T.Table.stays_goes_on g.met.T.Table.fails_since c.loop-number.invariant.read c.in_err-reason.ensures.err)

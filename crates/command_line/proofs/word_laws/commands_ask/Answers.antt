@@ -23,139 +23,115 @@ is_off = (
   λ is. let same : false ≡ true = ap (λ (o : Option (List ℕ)). option_map_or (λ word. bytes_eq word (codes "true")) o false) is in same,
 )
 
-pub returns-clause-create : goal.returns-clause-create
-returns-clause-create c = λ name file number pages plain_file asks.
-    means (create_right name (string_bytes file) number (read (string_bytes file) plain_file) (read number (plain_pages number pages asks)))
-    (create_named name (string_bytes file) number (read (string_bytes file) plain_file) (read number (plain_pages number pages asks)))
-    (inl (refl, (file, pages, false, refl, refl, asks, is_off)))
+pub returns-clause-tables : goal.returns-clause-tables
+returns-clause-tables c = record {
+  create = λ name file number pages plain_file asks.
+      means (create_right name (string_bytes file) number (read (string_bytes file) plain_file) (read number (plain_pages number pages asks)))
+      (create_named name (string_bytes file) number (read (string_bytes file) plain_file) (read number (plain_pages number pages asks)))
+      (inl (refl, (file, pages, false, refl, refl, asks, is_off)));
+  create_reserved = λ name file number pages plain_file asks.
+      means (create_reserved_right name (string_bytes file) number (read (string_bytes file) plain_file) (read number (plain_pages number pages asks)))
+      (create_reserved_named name (string_bytes file) number (read (string_bytes file) plain_file) (read number (plain_pages number pages asks)))
+      (inl (refl, (file, pages, true, refl, refl, asks, is_on)));
+  migrate = λ name file plain_file.
+      means (migrate_right name (string_bytes file) (read (string_bytes file) plain_file))
+      (migrate_named name (string_bytes file) (read (string_bytes file) plain_file))
+      (inr (inr (inr (inr (inr (inr (inl (refl, (file, refl, refl)))))))));
+  grow = λ name file number pages plain_file asks.
+      means (grow_right name (string_bytes file) number (read (string_bytes file) plain_file) (read number (plain_pages number pages asks)))
+      (grow_named name (string_bytes file) number (read (string_bytes file) plain_file) (read number (plain_pages number pages asks)))
+      (inr (inr (inr (inr (inr (inr (inr (inl (refl, (file, pages, false, refl, refl, asks, is_off))))))))));
+  grow_reserved = λ name file number pages plain_file asks.
+      means (grow_reserved_right name (string_bytes file) number (read (string_bytes file) plain_file) (read number (plain_pages number pages asks)))
+      (grow_reserved_named name (string_bytes file) number (read (string_bytes file) plain_file) (read number (plain_pages number pages asks)))
+      (inr (inr (inr (inr (inr (inr (inr (inl (refl, (file, pages, true, refl, refl, asks, is_on))))))))));
+}
 
-pub returns-clause-create_reserved : goal.returns-clause-create_reserved
-returns-clause-create_reserved c = λ name file number pages plain_file asks.
-    means (create_reserved_right name (string_bytes file) number (read (string_bytes file) plain_file) (read number (plain_pages number pages asks)))
-    (create_reserved_named name (string_bytes file) number (read (string_bytes file) plain_file) (read number (plain_pages number pages asks)))
-    (inl (refl, (file, pages, true, refl, refl, asks, is_on)))
+pub returns-clause-games : goal.returns-clause-games
+returns-clause-games c = record {
+  load = λ name file game plain_file plain_game.
+      means (load_right name (string_bytes file) (string_bytes game) (read (string_bytes file) plain_file) (read (string_bytes game) plain_game))
+      (load_named name (string_bytes file) (string_bytes game) (read (string_bytes file) plain_file) (read (string_bytes game) plain_game))
+      (inr (inl (refl, (file, game, None, refl, refl, refl, refl))));
+  load_goal = λ name file game points goal plain_file plain_game writes.
+      let is_file = read (string_bytes file) plain_file in
+      let is_game = read (string_bytes game) plain_game in
+      let is_points = read points (plain_number points writes.digits) in
+      means (load_goal_right name (string_bytes file) (string_bytes game) points is_file is_game is_points goal writes)
+      (load_goal_named name (string_bytes file) (string_bytes game) points is_file is_game is_points)
+      (inr (inl (refl, (file, game, Some goal, refl, refl, refl, (points_in goal, writes, (goal.some, goal.few), refl)))));
+  game = λ name file plain_file.
+      means (game_right name (string_bytes file) (read (string_bytes file) plain_file))
+      (game_named name (string_bytes file) (read (string_bytes file) plain_file))
+      (inr (inr (inr (inr (inl (refl, (file, refl, refl)))))));
+}
 
-pub returns-clause-load : goal.returns-clause-load
-returns-clause-load c = λ name file game plain_file plain_game.
-    means (load_right name (string_bytes file) (string_bytes game) (read (string_bytes file) plain_file) (read (string_bytes game) plain_game))
-    (load_named name (string_bytes file) (string_bytes game) (read (string_bytes file) plain_file) (read (string_bytes game) plain_game))
-    (inr (inl (refl, (file, game, None, refl, refl, refl, refl))))
-
-pub returns-clause-load_goal : goal.returns-clause-load_goal
-returns-clause-load_goal c = λ name file game points goal plain_file plain_game writes.
-    let is_file = read (string_bytes file) plain_file in
-    let is_game = read (string_bytes game) plain_game in
-    let is_points = read points (plain_number points writes.digits) in
-    means (load_goal_right name (string_bytes file) (string_bytes game) points is_file is_game is_points goal writes)
-    (load_goal_named name (string_bytes file) (string_bytes game) points is_file is_game is_points)
-    (inr (inl (refl, (file, game, Some goal, refl, refl, refl, (points_in goal, writes, (goal.some, goal.few), refl)))))
-
-pub returns-clause-session : goal.returns-clause-session
-returns-clause-session c = λ name file plain_file.
-    means (session_right name (string_bytes file) (read (string_bytes file) plain_file))
-    (session_named name (string_bytes file) (read (string_bytes file) plain_file))
-    (inr (inr (inl (refl, (file, false, refl, refl, is_off)))))
-
-pub returns-clause-session_quiet : goal.returns-clause-session_quiet
-returns-clause-session_quiet c = λ name file plain_file.
-    means (session_quiet_right name (string_bytes file) (read (string_bytes file) plain_file))
-    (session_quiet_named name (string_bytes file) (read (string_bytes file) plain_file))
-    (inr (inr (inl (refl, (file, true, refl, refl, is_on)))))
-
-pub returns-clause-look : goal.returns-clause-look
-returns-clause-look c = λ name file plain_file.
-    means (look_right name (string_bytes file) (read (string_bytes file) plain_file))
-    (look_named name (string_bytes file) (read (string_bytes file) plain_file))
-    (inr (inr (inr (inl (refl, (file, false, refl, refl, is_off))))))
-
-pub returns-clause-look_quiet : goal.returns-clause-look_quiet
-returns-clause-look_quiet c = λ name file plain_file.
-    means (look_quiet_right name (string_bytes file) (read (string_bytes file) plain_file))
-    (look_quiet_named name (string_bytes file) (read (string_bytes file) plain_file))
-    (inr (inr (inr (inl (refl, (file, true, refl, refl, is_on))))))
-
-pub returns-clause-game : goal.returns-clause-game
-returns-clause-game c = λ name file plain_file.
-    means (game_right name (string_bytes file) (read (string_bytes file) plain_file))
-    (game_named name (string_bytes file) (read (string_bytes file) plain_file))
-    (inr (inr (inr (inr (inl (refl, (file, refl, refl)))))))
-
-pub returns-clause-audit : goal.returns-clause-audit
-returns-clause-audit c = λ name file plain_file.
-    means (audit_right name (string_bytes file) (read (string_bytes file) plain_file))
-    (audit_named name (string_bytes file) (read (string_bytes file) plain_file))
-    (inr (inr (inr (inr (inr (inl (refl, (file, None, refl, refl, refl))))))))
-
-pub returns-clause-audit_game : goal.returns-clause-audit_game
-returns-clause-audit_game c = λ name file game plain_file plain_game.
-    means (audit_game_right name (string_bytes file) (string_bytes game) (read (string_bytes file) plain_file) (read (string_bytes game) plain_game))
-    (audit_game_named name (string_bytes file) (string_bytes game) (read (string_bytes file) plain_file) (read (string_bytes game) plain_game))
-    (inr (inr (inr (inr (inr (inl (refl, (file, Some game, refl, refl, refl))))))))
-
-pub returns-clause-migrate : goal.returns-clause-migrate
-returns-clause-migrate c = λ name file plain_file.
-    means (migrate_right name (string_bytes file) (read (string_bytes file) plain_file))
-    (migrate_named name (string_bytes file) (read (string_bytes file) plain_file))
-    (inr (inr (inr (inr (inr (inr (inl (refl, (file, refl, refl)))))))))
-
-pub returns-clause-grow : goal.returns-clause-grow
-returns-clause-grow c = λ name file number pages plain_file asks.
-    means (grow_right name (string_bytes file) number (read (string_bytes file) plain_file) (read number (plain_pages number pages asks)))
-    (grow_named name (string_bytes file) number (read (string_bytes file) plain_file) (read number (plain_pages number pages asks)))
-    (inr (inr (inr (inr (inr (inr (inr (inl (refl, (file, pages, false, refl, refl, asks, is_off))))))))))
-
-pub returns-clause-grow_reserved : goal.returns-clause-grow_reserved
-returns-clause-grow_reserved c = λ name file number pages plain_file asks.
-    means (grow_reserved_right name (string_bytes file) number (read (string_bytes file) plain_file) (read number (plain_pages number pages asks)))
-    (grow_reserved_named name (string_bytes file) number (read (string_bytes file) plain_file) (read number (plain_pages number pages asks)))
-    (inr (inr (inr (inr (inr (inr (inr (inl (refl, (file, pages, true, refl, refl, asks, is_on))))))))))
+pub returns-clause-sittings : goal.returns-clause-sittings
+returns-clause-sittings c = record {
+  session = λ name file plain_file.
+      means (session_right name (string_bytes file) (read (string_bytes file) plain_file))
+      (session_named name (string_bytes file) (read (string_bytes file) plain_file))
+      (inr (inr (inl (refl, (file, false, refl, refl, is_off)))));
+  session_quiet = λ name file plain_file.
+      means (session_quiet_right name (string_bytes file) (read (string_bytes file) plain_file))
+      (session_quiet_named name (string_bytes file) (read (string_bytes file) plain_file))
+      (inr (inr (inl (refl, (file, true, refl, refl, is_on)))));
+  look = λ name file plain_file.
+      means (look_right name (string_bytes file) (read (string_bytes file) plain_file))
+      (look_named name (string_bytes file) (read (string_bytes file) plain_file))
+      (inr (inr (inr (inl (refl, (file, false, refl, refl, is_off))))));
+  look_quiet = λ name file plain_file.
+      means (look_quiet_right name (string_bytes file) (read (string_bytes file) plain_file))
+      (look_quiet_named name (string_bytes file) (read (string_bytes file) plain_file))
+      (inr (inr (inr (inl (refl, (file, true, refl, refl, is_on))))));
+}
 
 pub returns-clause-moves : goal.returns-clause-moves
-returns-clause-moves c = λ name game plain_game.
-    means (moves_right name (string_bytes game) (read (string_bytes game) plain_game))
-    (moves_named name (string_bytes game) (read (string_bytes game) plain_game))
-    (inr (inr (inr (inr (inr (inr (inr (inr (inl (refl, (game, None, refl, refl, refl)))))))))))
+returns-clause-moves c = record {
+  moves = λ name game plain_game.
+      means (moves_right name (string_bytes game) (read (string_bytes game) plain_game))
+      (moves_named name (string_bytes game) (read (string_bytes game) plain_game))
+      (inr (inr (inr (inr (inr (inr (inr (inr (inl (refl, (game, None, refl, refl, refl)))))))))));
+  moves_at = λ name game position plain_game plain_position.
+      means (moves_at_right name (string_bytes game) (string_bytes position) (read (string_bytes game) plain_game) (read (string_bytes position) plain_position))
+      (moves_at_named name (string_bytes game) (string_bytes position) (read (string_bytes game) plain_game) (read (string_bytes position) plain_position))
+      (inr (inr (inr (inr (inr (inr (inr (inr (inl (refl, (game, Some position, refl, refl, refl)))))))))));
+  moves_of_input = λ name game hyphen plain_game is.
+      means (moves_of_input_right name (string_bytes game) (read (string_bytes game) plain_game))
+      (moves_of_input_named name (string_bytes game) (read (string_bytes game) plain_game))
+      (inr (inr (inr (inr (inr (inr (inr (inr (inl (refl, (game, Some hyphen, refl, refl, ap Some (sym is))))))))))));
+  actions = λ name game plain_game.
+      means (actions_right name (string_bytes game) (read (string_bytes game) plain_game))
+      (actions_named name (string_bytes game) (read (string_bytes game) plain_game))
+      (inr (inr (inr (inr (inr (inr (inr (inr (inr (inl (refl, (game, refl, refl))))))))))));
+}
 
-pub returns-clause-moves_at : goal.returns-clause-moves_at
-returns-clause-moves_at c = λ name game position plain_game plain_position.
-    means (moves_at_right name (string_bytes game) (string_bytes position) (read (string_bytes game) plain_game) (read (string_bytes position) plain_position))
-    (moves_at_named name (string_bytes game) (string_bytes position) (read (string_bytes game) plain_game) (read (string_bytes position) plain_position))
-    (inr (inr (inr (inr (inr (inr (inr (inr (inl (refl, (game, Some position, refl, refl, refl)))))))))))
-
-pub returns-clause-moves_of_input : goal.returns-clause-moves_of_input
-returns-clause-moves_of_input c = λ name game hyphen plain_game is.
-    means (moves_of_input_right name (string_bytes game) (read (string_bytes game) plain_game))
-    (moves_of_input_named name (string_bytes game) (read (string_bytes game) plain_game))
-    (inr (inr (inr (inr (inr (inr (inr (inr (inl (refl, (game, Some hyphen, refl, refl, ap Some (sym is))))))))))))
-
-pub returns-clause-actions : goal.returns-clause-actions
-returns-clause-actions c = λ name game plain_game.
-    means (actions_right name (string_bytes game) (read (string_bytes game) plain_game))
-    (actions_named name (string_bytes game) (read (string_bytes game) plain_game))
-    (inr (inr (inr (inr (inr (inr (inr (inr (inr (inl (refl, (game, refl, refl))))))))))))
-
-pub returns-clause-certify : goal.returns-clause-certify
-returns-clause-certify c = λ name file plain_file.
-    means (certify_right name (string_bytes file) (read (string_bytes file) plain_file))
-    (certify_named name (string_bytes file) (read (string_bytes file) plain_file))
-    (inr (inr (inr (inr (inr (inr (inr (inr (inr (inr (inl (refl, (file, 0, refl, refl, refl)))))))))))))
-
-pub returns-clause-certify_number : goal.returns-clause-certify_number
-returns-clause-certify_number c = λ name file number position plain_file writes.
-    means (certify_number_right name (string_bytes file) number (read (string_bytes file) plain_file) (read number (plain_number number writes.digits)))
-    (certify_number_named name (string_bytes file) number (read (string_bytes file) plain_file) (read number (plain_number number writes.digits)))
-    (inr (inr (inr (inr (inr (inr (inr (inr (inr (inr (inl (refl, (file, position, refl, refl, writes)))))))))))))
-
-pub returns-clause-check : goal.returns-clause-check
-returns-clause-check c = λ name certificate plain_certificate.
-    means (check_right name (string_bytes certificate) (read (string_bytes certificate) plain_certificate))
-    (check_named name (string_bytes certificate) (read (string_bytes certificate) plain_certificate))
-    (inr (inr (inr (inr (inr (inr (inr (inr (inr (inr (inr (inl (refl, (certificate, None, refl, refl, refl))))))))))))))
-
-pub returns-clause-check_game : goal.returns-clause-check_game
-returns-clause-check_game c = λ name certificate game plain_certificate plain_game.
-    let is_certificate = read (string_bytes certificate) plain_certificate in
-    let is_game = read (string_bytes game) plain_game in
-    means (check_game_right name (string_bytes certificate) (string_bytes game) is_certificate is_game)
-    (check_game_named name (string_bytes certificate) (string_bytes game) is_certificate is_game)
-    (inr (inr (inr (inr (inr (inr (inr (inr (inr (inr (inr (inl (refl, (certificate, Some game, refl, refl, refl))))))))))))))
+pub returns-clause-checks : goal.returns-clause-checks
+returns-clause-checks c = record {
+  audit = λ name file plain_file.
+      means (audit_right name (string_bytes file) (read (string_bytes file) plain_file))
+      (audit_named name (string_bytes file) (read (string_bytes file) plain_file))
+      (inr (inr (inr (inr (inr (inl (refl, (file, None, refl, refl, refl))))))));
+  audit_game = λ name file game plain_file plain_game.
+      means (audit_game_right name (string_bytes file) (string_bytes game) (read (string_bytes file) plain_file) (read (string_bytes game) plain_game))
+      (audit_game_named name (string_bytes file) (string_bytes game) (read (string_bytes file) plain_file) (read (string_bytes game) plain_game))
+      (inr (inr (inr (inr (inr (inl (refl, (file, Some game, refl, refl, refl))))))));
+  certify = λ name file plain_file.
+      means (certify_right name (string_bytes file) (read (string_bytes file) plain_file))
+      (certify_named name (string_bytes file) (read (string_bytes file) plain_file))
+      (inr (inr (inr (inr (inr (inr (inr (inr (inr (inr (inl (refl, (file, 0, refl, refl, refl)))))))))))));
+  certify_number = λ name file number position plain_file writes.
+      means (certify_number_right name (string_bytes file) number (read (string_bytes file) plain_file) (read number (plain_number number writes.digits)))
+      (certify_number_named name (string_bytes file) number (read (string_bytes file) plain_file) (read number (plain_number number writes.digits)))
+      (inr (inr (inr (inr (inr (inr (inr (inr (inr (inr (inl (refl, (file, position, refl, refl, writes)))))))))))));
+  check = λ name certificate plain_certificate.
+      means (check_right name (string_bytes certificate) (read (string_bytes certificate) plain_certificate))
+      (check_named name (string_bytes certificate) (read (string_bytes certificate) plain_certificate))
+      (inr (inr (inr (inr (inr (inr (inr (inr (inr (inr (inr (inl (refl, (certificate, None, refl, refl, refl))))))))))))));
+  check_game = λ name certificate game plain_certificate plain_game.
+      let is_certificate = read (string_bytes certificate) plain_certificate in
+      let is_game = read (string_bytes game) plain_game in
+      means (check_game_right name (string_bytes certificate) (string_bytes game) is_certificate is_game)
+      (check_game_named name (string_bytes certificate) (string_bytes game) is_certificate is_game)
+      (inr (inr (inr (inr (inr (inr (inr (inr (inr (inr (inr (inl (refl, (certificate, Some game, refl, refl, refl))))))))))))));
+}

@@ -1,16 +1,9 @@
 use Rattle.std.proofs.Common.{[], map, ap}
 use Rattle.rbg_read.proofs.Lists.{map_turn, end_behind}
-use Rattle.rbg_read.proofs.Exits.{none_answered}
 use Rattle.rbg_read.proofs.build.all_named.Goals as goal
 
 pub loop-word-init : goal.loop-word-init
 loop-word-init c = ap (map (λ n. n.bytes.items)) c.new-names.ensures.items
-
-pub returns-in_err-named : goal.returns-in_err-named
-returns-in_err-named c = none_answered _ c.from_residual.result c.from_residual.ensures.0
-
-pub returns-in_err-push : goal.returns-in_err-push
-returns-in_err-push c = none_answered _ c.from_residual-in_err-push.result c.from_residual-in_err-push.ensures.0
 
 pub loop-word-preserved : goal.loop-word-preserved
 loop-word-preserved c =

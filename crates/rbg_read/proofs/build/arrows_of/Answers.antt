@@ -6,7 +6,6 @@ use Rattle.rbg_game.specs.declared.game.Arrow.{Arrow}
 use Rattle.rbg_read.specs.lemmas.Parts.{known_view}
 use Rattle.rbg_read.specs.lemmas.Build.{placed_arrow}
 use Rattle.rbg_read.proofs.Lists.{map_turn, end_behind}
-use Rattle.rbg_read.proofs.Exits.{none_answered}
 use Rattle.rbg_read.proofs.build.arrows_of.Goals as goal
 
 -- what a goal has past the end of the arrows
@@ -25,9 +24,6 @@ loop-arrow-preserved c =
 
 pub loop-arrow-init : goal.loop-arrow-init
 loop-arrow-init c = ap (map arrow_of) c.new-placed.ensures.items
-
-pub returns-in_err-push : goal.returns-in_err-push
-returns-in_err-push c = none_answered _ c.from_residual.result c.from_residual.ensures.0
 
 pub returns : goal.returns
 returns c =

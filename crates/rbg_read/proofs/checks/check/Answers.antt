@@ -1,4 +1,4 @@
-use Rattle.std.proofs.Common.{◌≡◌, ◌==◌, ℕ, false, true, not, length, map, refl, ap, sym, ◌∙◌}
+use Rattle.std.proofs.Common.{◌≡◌, false, true, length, map, refl, ap, sym, ◌∙◌}
 use Rattle.std.specs.List.{list_any}
 use Rattle.rbg_text.specs.View.{step_view}
 use Rattle.rbg_read.specs.lemmas.Flat.{uses_unknown, repeats_name, has_large, is_past_a_limit, bounds, is_large_number}
@@ -7,7 +7,6 @@ use Rattle.rbg_read.specs.lemmas.Switches.{has_inner_switch}
 use Rattle.rbg_read.specs.lemmas.Parts.{known_view, parts_view}
 use Rattle.rbg_read.proofs.FirstCause.{here, past, two_at, two_players}
 use Rattle.rbg_read.proofs.NoCause.{few, no_large}
-use Rattle.rbg_read.proofs.Exits.{memory_ended}
 use Rattle.rbg_read.proofs.checks.check.Goals as goal
 
 pub returns-then-uses_unknown : goal.returns-then-uses_unknown
@@ -112,15 +111,3 @@ returns c =
     let inner : has_inner_switch parts.steps ≡ false =
     ap (λ ss. has_inner_switch (map step_view ss)) (sym c.as_slice-3.ensures.value) ∙ sym c.in_ok-has_inner_switch.ensures ∙ c.if-branch-2.false in
     past _ _ _ (two_at players) (past _ _ _ known (past _ _ _ twice (past _ _ _ large (past _ _ _ over (past _ _ _ big (past _ _ _ inner refl))))))
-
-pub returns-in_err-bounds : goal.returns-in_err-bounds
-returns-in_err-bounds c =
-    memory_ended _ _ _ c.from_residual.result c.from_residual.ensures
-
-pub returns-in_err-has_large_size : goal.returns-in_err-has_large_size
-returns-in_err-has_large_size c =
-    memory_ended _ _ _ c.from_residual-in_err-has_large_size.result c.from_residual-in_err-has_large_size.ensures
-
-pub returns-in_err-has_inner_switch : goal.returns-in_err-has_inner_switch
-returns-in_err-has_inner_switch c =
-    memory_ended _ _ _ c.from_residual-in_err-has_inner_switch.result c.from_residual-in_err-has_inner_switch.ensures

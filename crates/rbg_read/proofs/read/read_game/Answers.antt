@@ -9,7 +9,6 @@ use Rattle.rbg_read.specs.Reads.{too_long, stray_byte, nested, grammar}
 use Rattle.rbg_read.proofs.Outcome.{passed_on, kept_on, lacks, refused, read}
 use Rattle.rbg_read.proofs.SoundGames.{read_sound}
 use Rattle.rbg_read.proofs.ShallowRules.{read_shallow}
-use Rattle.rbg_read.proofs.Exits.{none_answered, memory_fault, of_fault}
 use Rattle.rbg_read.proofs.OneGame.{no_fault, refused_only}
 use Rattle.rbg_read.proofs.read.read_game.Goals as goal
 
@@ -86,9 +85,6 @@ returns-then-nesting-gt-MAX_NESTING-clause-only c = λ game is. absurd
 pub returns-in_default-clause-only : goal.returns-in_default-clause-only
 returns-in_default-clause-only c = λ game is. absurd (no_fault c.args.text.now game _ is (returns-in_default-clause-fault c (λ e. absurd (cc))))
 
-pub returns-in_err-tokens-clause-only : goal.returns-in_err-tokens-clause-only
-returns-in_err-tokens-clause-only c = λ game is. refused_only c.args.text.now c.from_residual.result (returns-in_err-tokens-clause-fault c) game is
-
 pub returns-in_err-sections-clause-only : goal.returns-in_err-sections-clause-only
 returns-in_err-sections-clause-only c = λ game is. refused_only c.args.text.now c.from_residual-in_err-sections.result
     (returns-in_err-sections-clause-fault c) game is
@@ -102,78 +98,6 @@ returns-clause-sound c = read_sound c.args.text.now (game_of c.in_ok-build.field
 pub returns-clause-shallow : goal.returns-clause-shallow
 returns-clause-shallow c =
     omega (arith, c.in_ok-build.ensures.shallow, read_shallow c.args.text.now (game_of c.in_ok-build.field-0) (returns-clause-reads c))
-
-pub returns-in_err-tokens-clause-reads : goal.returns-in_err-tokens-clause-reads
-returns-in_err-tokens-clause-reads c = none_answered _ c.from_residual.result c.from_residual.ensures.0
-
-pub returns-in_err-tokens-clause-sound : goal.returns-in_err-tokens-clause-sound
-returns-in_err-tokens-clause-sound c = none_answered _ c.from_residual.result c.from_residual.ensures.0
-
-pub returns-in_err-tokens-clause-shallow : goal.returns-in_err-tokens-clause-shallow
-returns-in_err-tokens-clause-shallow c = none_answered _ c.from_residual.result c.from_residual.ensures.0
-
-pub returns-in_err-sections-clause-reads : goal.returns-in_err-sections-clause-reads
-returns-in_err-sections-clause-reads c = none_answered _ c.from_residual-in_err-sections.result c.from_residual-in_err-sections.ensures.0
-
-pub returns-in_err-sections-clause-sound : goal.returns-in_err-sections-clause-sound
-returns-in_err-sections-clause-sound c = none_answered _ c.from_residual-in_err-sections.result c.from_residual-in_err-sections.ensures.0
-
-pub returns-in_err-sections-clause-shallow : goal.returns-in_err-sections-clause-shallow
-returns-in_err-sections-clause-shallow c = none_answered _ c.from_residual-in_err-sections.result c.from_residual-in_err-sections.ensures.0
-
-pub returns-in_err-parts-clause-reads : goal.returns-in_err-parts-clause-reads
-returns-in_err-parts-clause-reads c = none_answered _ c.from_residual-in_err-parts.result c.from_residual-in_err-parts.ensures.0
-
-pub returns-in_err-parts-clause-sound : goal.returns-in_err-parts-clause-sound
-returns-in_err-parts-clause-sound c = none_answered _ c.from_residual-in_err-parts.result c.from_residual-in_err-parts.ensures.0
-
-pub returns-in_err-parts-clause-shallow : goal.returns-in_err-parts-clause-shallow
-returns-in_err-parts-clause-shallow c = none_answered _ c.from_residual-in_err-parts.result c.from_residual-in_err-parts.ensures.0
-
-pub returns-in_err-parts-clause-fault : goal.returns-in_err-parts-clause-fault
-returns-in_err-parts-clause-fault c = memory_fault _ _ c.from_residual-in_err-parts.result c.from_residual-in_err-parts.ensures
-
-pub returns-in_err-parts-clause-only : goal.returns-in_err-parts-clause-only
-returns-in_err-parts-clause-only c = λ game is. of_fault _ c.from_residual-in_err-parts.result c.from_residual-in_err-parts.ensures
-
-pub returns-in_err-names-clause-reads : goal.returns-in_err-names-clause-reads
-returns-in_err-names-clause-reads c = none_answered _ c.from_residual-in_err-names.result c.from_residual-in_err-names.ensures.0
-
-pub returns-in_err-names-clause-sound : goal.returns-in_err-names-clause-sound
-returns-in_err-names-clause-sound c = none_answered _ c.from_residual-in_err-names.result c.from_residual-in_err-names.ensures.0
-
-pub returns-in_err-names-clause-shallow : goal.returns-in_err-names-clause-shallow
-returns-in_err-names-clause-shallow c = none_answered _ c.from_residual-in_err-names.result c.from_residual-in_err-names.ensures.0
-
-pub returns-in_err-names-clause-fault : goal.returns-in_err-names-clause-fault
-returns-in_err-names-clause-fault c = memory_fault _ _ c.from_residual-in_err-names.result c.from_residual-in_err-names.ensures
-
-pub returns-in_err-names-clause-only : goal.returns-in_err-names-clause-only
-returns-in_err-names-clause-only c = λ game is. of_fault _ c.from_residual-in_err-names.result c.from_residual-in_err-names.ensures
-
-pub returns-in_err-check-clause-reads : goal.returns-in_err-check-clause-reads
-returns-in_err-check-clause-reads c = none_answered _ c.from_residual-in_err-check.result c.from_residual-in_err-check.ensures.0
-
-pub returns-in_err-check-clause-sound : goal.returns-in_err-check-clause-sound
-returns-in_err-check-clause-sound c = none_answered _ c.from_residual-in_err-check.result c.from_residual-in_err-check.ensures.0
-
-pub returns-in_err-check-clause-shallow : goal.returns-in_err-check-clause-shallow
-returns-in_err-check-clause-shallow c = none_answered _ c.from_residual-in_err-check.result c.from_residual-in_err-check.ensures.0
-
-pub returns-in_err-build-clause-reads : goal.returns-in_err-build-clause-reads
-returns-in_err-build-clause-reads c = none_answered _ c.from_residual-in_err-build.result c.from_residual-in_err-build.ensures.0
-
-pub returns-in_err-build-clause-sound : goal.returns-in_err-build-clause-sound
-returns-in_err-build-clause-sound c = none_answered _ c.from_residual-in_err-build.result c.from_residual-in_err-build.ensures.0
-
-pub returns-in_err-build-clause-shallow : goal.returns-in_err-build-clause-shallow
-returns-in_err-build-clause-shallow c = none_answered _ c.from_residual-in_err-build.result c.from_residual-in_err-build.ensures.0
-
-pub returns-in_err-build-clause-fault : goal.returns-in_err-build-clause-fault
-returns-in_err-build-clause-fault c = memory_fault _ _ c.from_residual-in_err-build.result c.from_residual-in_err-build.ensures
-
-pub returns-in_err-build-clause-only : goal.returns-in_err-build-clause-only
-returns-in_err-build-clause-only c = λ game is. of_fault _ c.from_residual-in_err-build.result c.from_residual-in_err-build.ensures
 
 pub returns-then-text-gt-MAX_TEXT_BYTES-clause-reads : goal.returns-then-text-gt-MAX_TEXT_BYTES-clause-reads
 returns-then-text-gt-MAX_TEXT_BYTES-clause-reads c = tt
@@ -201,9 +125,6 @@ returns-in_default-clause-sound c = tt
 
 pub returns-in_default-clause-shallow : goal.returns-in_default-clause-shallow
 returns-in_default-clause-shallow c = tt
-
-pub returns-clause-fault : goal.returns-clause-fault
-returns-clause-fault c = tt
 
 pub returns-clause-only : goal.returns-clause-only
 returns-clause-only c = λ game is. tt

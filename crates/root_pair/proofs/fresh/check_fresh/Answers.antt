@@ -1,38 +1,23 @@
-use Rattle.sector_disk.specs.lemmas.Moments.{goes_on_trans, still_honest}
-use Rattle.root_pair.proofs.Opened.{leaves_read, same_read}
+use Rattle.root_pair.proofs.Opened.{read_on}
 use Rattle.root_pair.proofs.fresh.check_fresh.Goals as goal
+use Rattle.root_pair.proofs.fresh.check_fresh.Goals.{else-sectors-gt0-via-then-sectors-gt0+in_ok-fetch+else-starts_with, else-sectors-gt0-via-else-sectors-gt0}
 
-pub returns-in_err-sync_first-clause-moments : goal.returns-in_err-sync_first-clause-moments
-returns-in_err-sync_first-clause-moments g c = λ honest. c.sync_first.ensures.moments honest
+pub returns-in_err-fetch-clause-left : goal.returns-in_err-fetch-clause-left
+returns-in_err-fetch-clause-left g c = read_on c.sync_first.ensures.left c.fetch.ensures.left c.fetch.ensures.cause.later
 
-pub returns-in_err-sync_first-clause-same : goal.returns-in_err-sync_first-clause-same
-returns-in_err-sync_first-clause-same g c = c.sync_first.ensures.same
+pub returns-then-starts_with-clause-left : goal.returns-then-starts_with-clause-left
+returns-then-starts_with-clause-left g c = read_on c.sync_first.ensures.left c.fetch.ensures.left c.fetch.ensures.cause.later
 
-pub returns-in_err-sync_first-clause-time : goal.returns-in_err-sync_first-clause-time
-returns-in_err-sync_first-clause-time g c = c.sync_first.ensures.time.goes_on
+pub returns-then-sectors-lt-LEAST_SECTORS-clause-left : goal.returns-then-sectors-lt-LEAST_SECTORS-clause-left
+returns-then-sectors-lt-LEAST_SECTORS-clause-left g c =
+    elim c.else-sectors-gt0.branch [
+      | else-sectors-gt0-via-then-sectors-gt0+in_ok-fetch+else-starts_with w ↦ rw w.disk-is (read_on c.sync_first.ensures.left w.fetch.ensures.left w.fetch.ensures.cause.later)
+      | else-sectors-gt0-via-else-sectors-gt0 w ↦ rw w.disk-is c.sync_first.ensures.left
+    ]
 
-pub returns-in_err-fetch-clause-moments : goal.returns-in_err-fetch-clause-moments
-returns-in_err-fetch-clause-moments g c = λ honest.
-    let same = c.sync_first.ensures.same honest in
-    leaves_read (c.sync_first.ensures.moments honest) same c.fetch.ensures.time
-    (c.fetch.ensures.unchanged (still_honest c.sync_first.ensures.time.goes_on honest))
-
-pub returns-in_err-fetch-clause-same : goal.returns-in_err-fetch-clause-same
-returns-in_err-fetch-clause-same g c = λ honest.
-    same_read (c.sync_first.ensures.same honest) (c.fetch.ensures.unchanged (still_honest c.sync_first.ensures.time.goes_on honest))
-
-pub returns-in_err-fetch-clause-time : goal.returns-in_err-fetch-clause-time
-returns-in_err-fetch-clause-time g c = goes_on_trans c.sync_first.ensures.time.goes_on c.fetch.ensures.time.goes_on
-
-pub returns-then-starts_with-clause-moments : goal.returns-then-starts_with-clause-moments
-returns-then-starts_with-clause-moments g c = λ honest.
-    let same = c.sync_first.ensures.same honest in
-    leaves_read (c.sync_first.ensures.moments honest) same c.fetch.ensures.time
-    (c.fetch.ensures.unchanged (still_honest c.sync_first.ensures.time.goes_on honest))
-
-pub returns-then-starts_with-clause-same : goal.returns-then-starts_with-clause-same
-returns-then-starts_with-clause-same g c = λ honest.
-    same_read (c.sync_first.ensures.same honest) (c.fetch.ensures.unchanged (still_honest c.sync_first.ensures.time.goes_on honest))
-
-pub returns-then-starts_with-clause-time : goal.returns-then-starts_with-clause-time
-returns-then-starts_with-clause-time g c = goes_on_trans c.sync_first.ensures.time.goes_on c.fetch.ensures.time.goes_on
+pub returns-clause-left : goal.returns-clause-left
+returns-clause-left g c =
+    elim c.else-sectors-gt0.branch [
+      | else-sectors-gt0-via-then-sectors-gt0+in_ok-fetch+else-starts_with w ↦ rw w.disk-is (read_on c.sync_first.ensures.left w.fetch.ensures.left w.fetch.ensures.cause.later)
+      | else-sectors-gt0-via-else-sectors-gt0 w ↦ rw w.disk-is c.sync_first.ensures.left
+    ]

@@ -21,11 +21,11 @@ returns-in-Err-NotATable-clause-ok g c = tt
 pub returns-in-Err-NotATable-clause-refused : goal.returns-in-Err-NotATable-clause-refused
 returns-in-Err-NotATable-clause-refused g c =
     record {
-      goes_on = c.open.ensures.time;
-      failures = c.open.ensures.failures;
-      same_size = c.open.ensures.same_size;
-      same = c.open.ensures.same;
-      leaves = c.open.ensures.moments;
+      goes_on = c.open.ensures.left.time;
+      failures = c.open.ensures.left.failures;
+      same_size = c.open.ensures.left.same_size;
+      same = c.open.ensures.left.same;
+      leaves = c.open.ensures.left.moments;
     }
 
 pub returns-in-Err-clause-ok : goal.returns-in-Err-clause-ok
@@ -34,11 +34,11 @@ returns-in-Err-clause-ok g c = tt
 pub returns-in-Err-clause-refused : goal.returns-in-Err-clause-refused
 returns-in-Err-clause-refused g c =
     record {
-      goes_on = c.open.ensures.time;
-      failures = c.open.ensures.failures;
-      same_size = c.open.ensures.same_size;
-      same = c.open.ensures.same;
-      leaves = c.open.ensures.moments;
+      goes_on = c.open.ensures.left.time;
+      failures = c.open.ensures.left.failures;
+      same_size = c.open.ensures.left.same_size;
+      same = c.open.ensures.left.same;
+      leaves = c.open.ensures.left.moments;
     }
 
 pub returns-in_default-clause-ok : goal.returns-in_default-clause-ok
@@ -47,11 +47,11 @@ returns-in_default-clause-ok g c = tt
 pub returns-in_default-clause-refused : goal.returns-in_default-clause-refused
 returns-in_default-clause-refused g c =
     record {
-      goes_on = c.open.ensures.time;
-      failures = c.open.ensures.failures;
-      same_size = c.open.ensures.same_size;
-      same = c.open.ensures.same;
-      leaves = c.open.ensures.moments;
+      goes_on = c.open.ensures.left.time;
+      failures = c.open.ensures.left.failures;
+      same_size = c.open.ensures.left.same_size;
+      same = c.open.ensures.left.same;
+      leaves = c.open.ensures.left.moments;
     }
 
 pub returns-in-Ok-Ok-Ok-Ok-clause-refused : goal.returns-in-Ok-Ok-Ok-Ok-clause-refused

@@ -24,19 +24,19 @@ returns-then-self-clause-commits g c = record {
 
 pub returns-in-Ok-clause-commits : goal.returns-in-Ok-clause-commits
 returns-in-Ok-clause-commits g c = record {
-  goes_on = c.publish.ensures.time;
-  same_size = c.publish.ensures.same_size;
-  failures = c.publish.ensures.failures;
+  goes_on = c.publish.ensures.left.time;
+  same_size = c.publish.ensures.left.same_size;
+  failures = c.publish.ensures.left.failures;
   closes = closes_same refl (c.in-Ok.ensures.counted.answered refl);
-  leaves = λ honest safe. leaves_more (old_or_new _ _ safe) (c.publish.ensures.moments honest safe.rest);
+  leaves = λ honest safe. leaves_more (old_or_new _ _ safe) (c.publish.ensures.left.moments honest safe.rest);
   holds = refl;
   held = λ honest. published_held
       (store_of (g.D.SectorDisk.disk c.args.self.now.disk)
       (g.D.SectorDisk.failures c.args.self.now.disk) c.args.self.now.root.bytes c.args.self.now.marks.items c.args.self.now.closed
       (holds_of c.args.self.now.taken c.args.self.now.holders.items))
       (g.D.SectorDisk.disk c.publish.new.disk) honest
-      (pages_behind (g.D.SectorDisk.disk c.args.self.now.disk) (g.D.SectorDisk.disk c.publish.new.disk) c.publish.ensures.others);
-  header = published_header (g.D.SectorDisk.disk c.args.self.now.disk) (g.D.SectorDisk.disk c.publish.new.disk) c.publish.ensures.others;
+      (pages_behind (g.D.SectorDisk.disk c.args.self.now.disk) (g.D.SectorDisk.disk c.publish.new.disk) c.publish.ensures.left.others);
+  header = published_header (g.D.SectorDisk.disk c.args.self.now.disk) (g.D.SectorDisk.disk c.publish.new.disk) c.publish.ensures.left.others;
 }
 
 pub returns-in-Ok-clause-after : goal.returns-in-Ok-clause-after
@@ -44,7 +44,7 @@ returns-in-Ok-clause-after g c = λ honest.
     published_leaves (store_of (g.D.SectorDisk.disk c.args.self.now.disk)
     (g.D.SectorDisk.failures c.args.self.now.disk) c.args.self.now.root.bytes c.args.self.now.marks.items c.args.self.now.closed
     (holds_of c.args.self.now.taken c.args.self.now.holders.items))
-    _ _ (omega (arith, c.args.self.now.sound.fits, c.publish.ensures.same_size))
+    _ _ (omega (arith, c.args.self.now.sound.fits, c.publish.ensures.left.same_size))
     (c.in-Ok.ensures.ok honest (c.args.self.now.sound.safe honest c.if-self.false).rest)
 
 pub returns-in-Ok-clause-ok : goal.returns-in-Ok-clause-ok
@@ -57,36 +57,36 @@ returns-in-Ok-clause-ok g c = record {
 
 pub returns-then-is_read-clause-commits : goal.returns-then-is_read-clause-commits
 returns-then-is_read-clause-commits g c = record {
-  goes_on = c.publish.ensures.time;
-  same_size = c.publish.ensures.same_size;
-  failures = c.publish.ensures.failures;
+  goes_on = c.publish.ensures.left.time;
+  same_size = c.publish.ensures.left.same_size;
+  failures = c.publish.ensures.left.failures;
   closes = closes_same refl (c.publish.ensures.counted.read (is_read _ _ c.in-Err.is (c.is_read.ensures.0 c.if-is_read.true)));
-  leaves = λ honest safe. leaves_more (old_or_new _ _ safe) (c.publish.ensures.moments honest safe.rest);
+  leaves = λ honest safe. leaves_more (old_or_new _ _ safe) (c.publish.ensures.left.moments honest safe.rest);
   holds = refl;
   held = λ honest. published_held
       (store_of (g.D.SectorDisk.disk c.args.self.now.disk)
       (g.D.SectorDisk.failures c.args.self.now.disk) c.args.self.now.root.bytes c.args.self.now.marks.items c.args.self.now.closed
       (holds_of c.args.self.now.taken c.args.self.now.holders.items))
       (g.D.SectorDisk.disk c.publish.new.disk) honest
-      (pages_behind (g.D.SectorDisk.disk c.args.self.now.disk) (g.D.SectorDisk.disk c.publish.new.disk) c.publish.ensures.others);
-  header = published_header (g.D.SectorDisk.disk c.args.self.now.disk) (g.D.SectorDisk.disk c.publish.new.disk) c.publish.ensures.others;
+      (pages_behind (g.D.SectorDisk.disk c.args.self.now.disk) (g.D.SectorDisk.disk c.publish.new.disk) c.publish.ensures.left.others);
+  header = published_header (g.D.SectorDisk.disk c.args.self.now.disk) (g.D.SectorDisk.disk c.publish.new.disk) c.publish.ensures.left.others;
 }
 
 pub returns-else-is_read-clause-commits : goal.returns-else-is_read-clause-commits
 returns-else-is_read-clause-commits g c = record {
-  goes_on = c.publish.ensures.time;
-  same_size = c.publish.ensures.same_size;
-  failures = c.publish.ensures.failures;
+  goes_on = c.publish.ensures.left.time;
+  same_size = c.publish.ensures.left.same_size;
+  failures = c.publish.ensures.left.failures;
   closes = closes_failed refl (c.in-Err.ensures.counted.write (no_read c.is_read.ensures c.if-is_read.false));
-  leaves = λ honest safe. leaves_more (old_or_new _ _ safe) (c.publish.ensures.moments honest safe.rest);
+  leaves = λ honest safe. leaves_more (old_or_new _ _ safe) (c.publish.ensures.left.moments honest safe.rest);
   holds = refl;
   held = λ honest. published_held
       (store_of (g.D.SectorDisk.disk c.args.self.now.disk)
       (g.D.SectorDisk.failures c.args.self.now.disk) c.args.self.now.root.bytes c.args.self.now.marks.items c.args.self.now.closed
       (holds_of c.args.self.now.taken c.args.self.now.holders.items))
       (g.D.SectorDisk.disk c.publish.new.disk) honest
-      (pages_behind (g.D.SectorDisk.disk c.args.self.now.disk) (g.D.SectorDisk.disk c.publish.new.disk) c.publish.ensures.others);
-  header = published_header (g.D.SectorDisk.disk c.args.self.now.disk) (g.D.SectorDisk.disk c.publish.new.disk) c.publish.ensures.others;
+      (pages_behind (g.D.SectorDisk.disk c.args.self.now.disk) (g.D.SectorDisk.disk c.publish.new.disk) c.publish.ensures.left.others);
+  header = published_header (g.D.SectorDisk.disk c.args.self.now.disk) (g.D.SectorDisk.disk c.publish.new.disk) c.publish.ensures.left.others;
 }
 
 pub returns-else-is_read-clause-cause : goal.returns-else-is_read-clause-cause
@@ -94,36 +94,36 @@ returns-else-is_read-clause-cause g c = (published_grew _ _ _ c.in-Err.ensures.f
 
 pub returns-in-Ok-clause-kept_pages : goal.returns-in-Ok-clause-kept_pages
 returns-in-Ok-clause-kept_pages g c = λ honest. pages_kept _ _
-    (pages_behind (g.D.SectorDisk.disk c.args.self.now.disk) (g.D.SectorDisk.disk c.publish.new.disk) c.publish.ensures.others honest)
+    (pages_behind (g.D.SectorDisk.disk c.args.self.now.disk) (g.D.SectorDisk.disk c.publish.new.disk) c.publish.ensures.left.others honest)
 
 pub returns-then-is_read-clause-kept_pages : goal.returns-then-is_read-clause-kept_pages
 returns-then-is_read-clause-kept_pages g c = λ honest. pages_kept _ _
-    (pages_behind (g.D.SectorDisk.disk c.args.self.now.disk) (g.D.SectorDisk.disk c.publish.new.disk) c.publish.ensures.others honest)
+    (pages_behind (g.D.SectorDisk.disk c.args.self.now.disk) (g.D.SectorDisk.disk c.publish.new.disk) c.publish.ensures.left.others honest)
 
 pub returns-else-is_read-clause-kept_pages : goal.returns-else-is_read-clause-kept_pages
 returns-else-is_read-clause-kept_pages g c = λ honest. pages_kept _ _
-    (pages_behind (g.D.SectorDisk.disk c.args.self.now.disk) (g.D.SectorDisk.disk c.publish.new.disk) c.publish.ensures.others honest)
+    (pages_behind (g.D.SectorDisk.disk c.args.self.now.disk) (g.D.SectorDisk.disk c.publish.new.disk) c.publish.ensures.left.others honest)
 
 pub invariant_of-self-clause-cached : goal.invariant_of-self-clause-cached
 invariant_of-self-clause-cached g c =
-    carried _ _ _ _ c.args.self.now.cached (λ p held there. there) (was_honest c.publish.ensures.time)
+    carried _ _ _ _ c.args.self.now.cached (λ p held there. there) (was_honest c.publish.ensures.left.time)
     (λ p held there. committed_kept _ _ _ c.turn_committed.ensures.committed p)
     (λ h p held there behind k within.
-    (pages_behind (g.D.SectorDisk.disk c.args.self.now.disk) (g.D.SectorDisk.disk c.publish.new.disk) c.publish.ensures.others) h k
+    (pages_behind (g.D.SectorDisk.disk c.args.self.now.disk) (g.D.SectorDisk.disk c.publish.new.disk) c.publish.ensures.left.others) h k
     (omega (arith, behind, within.0)))
 
 pub invariant_of-self-then-is_read-clause-cached : goal.invariant_of-self-then-is_read-clause-cached
 invariant_of-self-then-is_read-clause-cached g c =
-    carried _ _ _ _ c.args.self.now.cached (λ p held there. there) (was_honest c.publish.ensures.time) (λ p held there kept. kept)
+    carried _ _ _ _ c.args.self.now.cached (λ p held there. there) (was_honest c.publish.ensures.left.time) (λ p held there kept. kept)
     (λ h p held there behind k within.
-    (pages_behind (g.D.SectorDisk.disk c.args.self.now.disk) (g.D.SectorDisk.disk c.publish.new.disk) c.publish.ensures.others) h k
+    (pages_behind (g.D.SectorDisk.disk c.args.self.now.disk) (g.D.SectorDisk.disk c.publish.new.disk) c.publish.ensures.left.others) h k
     (omega (arith, behind, within.0)))
 
 pub invariant_of-self-in-Err-clause-cached : goal.invariant_of-self-in-Err-clause-cached
 invariant_of-self-in-Err-clause-cached g c =
-    carried _ _ _ _ c.args.self.now.cached (λ p held there. there) (was_honest c.publish.ensures.time) (λ p held there kept. kept)
+    carried _ _ _ _ c.args.self.now.cached (λ p held there. there) (was_honest c.publish.ensures.left.time) (λ p held there kept. kept)
     (λ h p held there behind k within.
-    (pages_behind (g.D.SectorDisk.disk c.args.self.now.disk) (g.D.SectorDisk.disk c.publish.new.disk) c.publish.ensures.others) h k
+    (pages_behind (g.D.SectorDisk.disk c.args.self.now.disk) (g.D.SectorDisk.disk c.publish.new.disk) c.publish.ensures.left.others) h k
     (omega (arith, behind, within.0)))
 
 pub returns-then-self-clause-after : goal.returns-then-self-clause-after

@@ -91,21 +91,22 @@ returns-in-Ok-publish-clause-grows g c =
     let made = sym c.is_err.ensures.value ∙ c.if-is_err.false in
     let room = (not_err _ made c.make_room.ensures.ok).room in
     record {
-      goes_on = goes_on_trans c.make_room.ensures.longer.time c.publish.ensures.time;
-      no_shorter = omega (arith, c.make_room.ensures.longer.no_shorter, c.publish.ensures.same_size);
-      failures = omega (arith, c.make_room.ensures.cause.later, c.publish.ensures.failures);
+      goes_on = goes_on_trans c.make_room.ensures.longer.time c.publish.ensures.left.time;
+      no_shorter = omega (arith, c.make_room.ensures.longer.no_shorter, c.publish.ensures.left.same_size);
+      failures = omega (arith, c.make_room.ensures.cause.later, c.publish.ensures.left.failures);
       closes = closes_same refl (c.in-Ok-publish.ensures.counted.answered refl ∙ counted_ok _ made c.make_room.ensures.counted);
       leaves = λ honest safe.
-          let there = c.publish.ensures.moments (still_honest c.make_room.ensures.longer.time honest)
+          let there = c.publish.ensures.left.moments (still_honest c.make_room.ensures.longer.time honest)
           (rest_longer (c.make_room.ensures.longer.longer honest) safe.rest) in
           grown_leaves _ _ _ _ c.args.pages c.args.self.now.sound (omega (arith, room, c.from.ensures)) c.make_room.ensures.longer.longer
-          (λ h. (not_err _ made c.make_room.ensures.ok).synced h) c.make_room.ensures.longer.time c.publish.ensures.time c.make_room.ensures.longer.moments honest safe there;
+          (λ h. (not_err _ made c.make_room.ensures.ok).synced h) c.make_room.ensures.longer.time c.publish.ensures.left.time
+          c.make_room.ensures.longer.moments honest safe there;
       no_fewer = omega (arith, c.in-Ok.ensures.long, c.requires.more);
       holds = record { taken = refl; each = λ p. c.in-Ok-grown_holders.ensures.each p ∙ ap (λ (hs : List Holders). holders_at hs p) c.deref-3.ensures.value };
       held = held_pages _ _ c.args.self.now.sound (λ honest p behind within.
           longer_pages _ (g.D.SectorDisk.disk c.make_room.new.disk) (g.D.SectorDisk.disk c.publish.new.disk) c.args.self.now.sound
           (c.make_room.ensures.longer.longer honest)
-          (pages_behind (g.D.SectorDisk.disk c.make_room.new.disk) (g.D.SectorDisk.disk c.publish.new.disk) c.publish.ensures.others
+          (pages_behind (g.D.SectorDisk.disk c.make_room.new.disk) (g.D.SectorDisk.disk c.publish.new.disk) c.publish.ensures.left.others
           (still_honest c.make_room.ensures.longer.time honest)) p behind within);
     }
 
@@ -115,9 +116,11 @@ returns-in-Ok-publish-clause-after g c = λ honest.
     let room = (not_err _ made c.make_room.ensures.ok).room in
     let rest = mid_rests _ _ (g.D.SectorDisk.disk c.publish.new.disk) c.args.root.now c.args.pages c.args.self.now.sound
     (omega (arith, room, c.from.ensures)) c.make_room.ensures.longer.longer
-    (λ h. (not_err _ made c.make_room.ensures.ok).synced h) c.make_room.ensures.longer.time c.publish.ensures.time c.make_room.ensures.longer.moments honest (c.args.self.now.sound.safe honest c.if-self.false) in
+    (λ h. (not_err _ made c.make_room.ensures.ok).synced h) c.make_room.ensures.longer.time c.publish.ensures.left.time c.make_room.ensures.longer.moments
+    honest (c.args.self.now.sound.safe honest c.if-self.false) in
     grown_after _ _ _ _ c.args.pages c.args.self.now.sound (omega (arith, room, c.from.ensures)) c.make_room.ensures.longer.longer
-    (λ h. (not_err _ made c.make_room.ensures.ok).synced h) c.make_room.ensures.longer.time c.publish.ensures.time c.make_room.ensures.longer.moments honest c.publish.ensures.same_size
+    (λ h. (not_err _ made c.make_room.ensures.ok).synced h) c.make_room.ensures.longer.time c.publish.ensures.left.time c.make_room.ensures.longer.moments
+    honest c.publish.ensures.left.same_size
     (c.in-Ok-publish.ensures.ok (still_honest c.make_room.ensures.longer.time honest) rest)
 
 pub returns-in-Ok-publish-clause-ok : goal.returns-in-Ok-publish-clause-ok
@@ -127,7 +130,7 @@ returns-in-Ok-publish-clause-ok g c = record {
   closed = c.if-self.false;
   reads = λ honest p behind within. longer_pages _ (g.D.SectorDisk.disk c.make_room.new.disk)
       (g.D.SectorDisk.disk c.publish.new.disk) c.args.self.now.sound (c.make_room.ensures.longer.longer honest)
-      (pages_behind (g.D.SectorDisk.disk c.make_room.new.disk) (g.D.SectorDisk.disk c.publish.new.disk) c.publish.ensures.others
+      (pages_behind (g.D.SectorDisk.disk c.make_room.new.disk) (g.D.SectorDisk.disk c.publish.new.disk) c.publish.ensures.left.others
       (still_honest c.make_room.ensures.longer.time honest)) p behind within;
 }
 
@@ -135,7 +138,7 @@ pub returns-in-Ok-publish-clause-kept_pages : goal.returns-in-Ok-publish-clause-
 returns-in-Ok-publish-clause-kept_pages g c = λ honest p behind within.
     longer_pages _ (g.D.SectorDisk.disk c.make_room.new.disk) (g.D.SectorDisk.disk c.publish.new.disk) c.args.self.now.sound
     (c.make_room.ensures.longer.longer honest)
-    (pages_behind (g.D.SectorDisk.disk c.make_room.new.disk) (g.D.SectorDisk.disk c.publish.new.disk) c.publish.ensures.others
+    (pages_behind (g.D.SectorDisk.disk c.make_room.new.disk) (g.D.SectorDisk.disk c.publish.new.disk) c.publish.ensures.left.others
     (still_honest c.make_room.ensures.longer.time honest)) p behind within
 
 pub invariant_of-self-in-Ok-publish : goal.invariant_of-self-in-Ok-publish
@@ -145,21 +148,23 @@ invariant_of-self-in-Ok-publish g c =
     record {
       sound = grown_sound _ _ (g.D.SectorDisk.disk c.publish.new.disk) c.args.root.now c.args.pages c.args.self.now.sound
           (omega (arith, room, c.from.ensures)) c.make_room.ensures.longer.longer
-          (λ h. (not_err _ made c.make_room.ensures.ok).synced h) c.make_room.ensures.longer.time c.publish.ensures.time c.make_room.ensures.longer.moments
-          _ refl refl (search rules) c.in-Ok-grown_holders.ensures.long (record { taken = refl; each = λ p. c.in-Ok-grown_holders.ensures.each p ∙ ap (λ (hs : List Holders). holders_at hs p) c.deref-3.ensures.value }) c.requires.few c.requires.more c.publish.ensures.same_size c.requires.some
+          (λ h. (not_err _ made c.make_room.ensures.ok).synced h) c.make_room.ensures.longer.time c.publish.ensures.left.time c.make_room.ensures.longer.moments
+          _ refl refl (search rules) c.in-Ok-grown_holders.ensures.long
+          (record { taken = refl; each = λ p. c.in-Ok-grown_holders.ensures.each p ∙ ap (λ (hs : List Holders). holders_at hs p) c.deref-3.ensures.value }) c.requires.few c.requires.more c.publish.ensures.left.same_size c.requires.some
           (λ honest. c.in-Ok-publish.ensures.ok (still_honest c.make_room.ensures.longer.time honest)
           (mid_rests _ _ (g.D.SectorDisk.disk c.publish.new.disk) c.args.root.now c.args.pages c.args.self.now.sound
           (omega (arith, room, c.from.ensures)) c.make_room.ensures.longer.longer
-          (λ h. (not_err _ made c.make_room.ensures.ok).synced h) c.make_room.ensures.longer.time c.publish.ensures.time c.make_room.ensures.longer.moments honest (c.args.self.now.sound.safe honest c.if-self.false)));
+          (λ h. (not_err _ made c.make_room.ensures.ok).synced h) c.make_room.ensures.longer.time c.publish.ensures.left.time
+          c.make_room.ensures.longer.moments honest (c.args.self.now.sound.safe honest c.if-self.false)));
       unused = unused_grown c.args.self.now.holders.items c.args.pages _ _ _ c.args.self.now.unused (search rules);
       blocks = all_are_noted _ _ (omega
           (arith, c.in-Ok-all_noted.ensures.room, c.in-Ok.ensures.long)) c.in-Ok-all_noted.ensures.few c.in-Ok-all_noted.ensures.each;
       cached = carried _ _ _ _ c.args.self.now.cached (λ p held there. there)
-          (was_honest (goes_on_trans c.make_room.ensures.longer.time c.publish.ensures.time))
+          (was_honest (goes_on_trans c.make_room.ensures.longer.time c.publish.ensures.left.time))
           (λ p held there kept. grown_kept c.args.self.now.holders.items c.args.pages _ _ c.requires.more (search rules) p kept)
           (λ h p held there behind. longer_within _ (g.D.SectorDisk.disk c.make_room.new.disk)
           (g.D.SectorDisk.disk c.publish.new.disk) c.args.self.now.sound (c.make_room.ensures.longer.longer h)
-          (pages_behind (g.D.SectorDisk.disk c.make_room.new.disk) (g.D.SectorDisk.disk c.publish.new.disk) c.publish.ensures.others
+          (pages_behind (g.D.SectorDisk.disk c.make_room.new.disk) (g.D.SectorDisk.disk c.publish.new.disk) c.publish.ensures.left.others
           (still_honest c.make_room.ensures.longer.time h)) p behind
           (c.args.self.now.cached.kept p held there).1);
     }
@@ -167,19 +172,19 @@ invariant_of-self-in-Ok-publish g c =
 pub invariant_of-self-then-is_read : goal.invariant_of-self-then-is_read
 invariant_of-self-then-is_read g c = record {
   sound = lengthened_sound _ _ _ c.args.self.now.sound refl refl refl refl c.make_room.ensures.longer.longer
-      (λ honest. c.publish.ensures.read honest (is_read _ _ c.in-Err-publish.is (c.is_read.ensures.0 c.if-is_read.true)))
-      c.make_room.ensures.longer.time c.publish.ensures.time c.make_room.ensures.longer.moments
-      (λ honest. c.publish.ensures.unwritten honest (is_read _ _ c.in-Err-publish.is (c.is_read.ensures.0 c.if-is_read.true)))
+      (λ honest. c.publish.ensures.unread.read honest (is_read _ _ c.in-Err-publish.is (c.is_read.ensures.0 c.if-is_read.true)))
+      c.make_room.ensures.longer.time c.publish.ensures.left.time c.make_room.ensures.longer.moments
+      (λ honest. c.publish.ensures.unread.unwritten honest (is_read _ _ c.in-Err-publish.is (c.is_read.ensures.0 c.if-is_read.true)))
       (c.publish.ensures.counted.read (is_read _ _ c.in-Err-publish.is (c.is_read.ensures.0 c.if-is_read.true))
       ∙ counted_ok _ (sym c.is_err.ensures.value ∙ c.if-is_err.false) c.make_room.ensures.counted)
-      (omega (arith, c.make_room.ensures.longer.no_shorter, c.publish.ensures.same_size));
+      (omega (arith, c.make_room.ensures.longer.no_shorter, c.publish.ensures.left.same_size));
   blocks = c.args.self.now.blocks;
   unused = c.args.self.now.unused;
   cached = carried _ _ _ _ c.args.self.now.cached (λ p held there. there)
-      (was_honest (goes_on_trans c.make_room.ensures.longer.time c.publish.ensures.time)) (λ p held there kept. kept)
+      (was_honest (goes_on_trans c.make_room.ensures.longer.time c.publish.ensures.left.time)) (λ p held there kept. kept)
       (λ h p held there behind. longer_within _ (g.D.SectorDisk.disk c.make_room.new.disk)
       (g.D.SectorDisk.disk c.publish.new.disk) c.args.self.now.sound (c.make_room.ensures.longer.longer h)
-      (pages_behind (g.D.SectorDisk.disk c.make_room.new.disk) (g.D.SectorDisk.disk c.publish.new.disk) c.publish.ensures.others
+      (pages_behind (g.D.SectorDisk.disk c.make_room.new.disk) (g.D.SectorDisk.disk c.publish.new.disk) c.publish.ensures.left.others
       (still_honest c.make_room.ensures.longer.time h)) p behind
       (c.args.self.now.cached.kept p held there).1);
 }
@@ -189,22 +194,23 @@ returns-then-is_read-clause-grows g c =
     let made = sym c.is_err.ensures.value ∙ c.if-is_err.false in
     let room = (not_err _ made c.make_room.ensures.ok).room in
     record {
-      goes_on = goes_on_trans c.make_room.ensures.longer.time c.publish.ensures.time;
-      no_shorter = omega (arith, c.make_room.ensures.longer.no_shorter, c.publish.ensures.same_size);
-      failures = omega (arith, c.make_room.ensures.cause.later, c.publish.ensures.failures);
+      goes_on = goes_on_trans c.make_room.ensures.longer.time c.publish.ensures.left.time;
+      no_shorter = omega (arith, c.make_room.ensures.longer.no_shorter, c.publish.ensures.left.same_size);
+      failures = omega (arith, c.make_room.ensures.cause.later, c.publish.ensures.left.failures);
       closes = closes_same refl (c.publish.ensures.counted.read (is_read _ _ c.in-Err-publish.is (c.is_read.ensures.0 c.if-is_read.true))
           ∙ counted_ok _ made c.make_room.ensures.counted);
       leaves = λ honest safe.
-          let there = c.publish.ensures.moments (still_honest c.make_room.ensures.longer.time honest)
+          let there = c.publish.ensures.left.moments (still_honest c.make_room.ensures.longer.time honest)
           (rest_longer (c.make_room.ensures.longer.longer honest) safe.rest) in
           grown_leaves _ _ _ _ c.args.pages c.args.self.now.sound (omega (arith, room, c.from.ensures)) c.make_room.ensures.longer.longer
-          (λ h. (not_err _ made c.make_room.ensures.ok).synced h) c.make_room.ensures.longer.time c.publish.ensures.time c.make_room.ensures.longer.moments honest safe there;
+          (λ h. (not_err _ made c.make_room.ensures.ok).synced h) c.make_room.ensures.longer.time c.publish.ensures.left.time
+          c.make_room.ensures.longer.moments honest safe there;
       no_fewer = omega arith;
       holds = same_holds refl;
       held = held_pages _ _ c.args.self.now.sound (λ honest p behind within.
           longer_pages _ (g.D.SectorDisk.disk c.make_room.new.disk) (g.D.SectorDisk.disk c.publish.new.disk) c.args.self.now.sound
           (c.make_room.ensures.longer.longer honest)
-          (pages_behind (g.D.SectorDisk.disk c.make_room.new.disk) (g.D.SectorDisk.disk c.publish.new.disk) c.publish.ensures.others
+          (pages_behind (g.D.SectorDisk.disk c.make_room.new.disk) (g.D.SectorDisk.disk c.publish.new.disk) c.publish.ensures.left.others
           (still_honest c.make_room.ensures.longer.time honest)) p behind within);
     }
 
@@ -212,30 +218,30 @@ pub returns-then-is_read-clause-kept_pages : goal.returns-then-is_read-clause-ke
 returns-then-is_read-clause-kept_pages g c = λ honest p behind within.
     longer_pages _ (g.D.SectorDisk.disk c.make_room.new.disk) (g.D.SectorDisk.disk c.publish.new.disk) c.args.self.now.sound
     (c.make_room.ensures.longer.longer honest)
-    (pages_behind (g.D.SectorDisk.disk c.make_room.new.disk) (g.D.SectorDisk.disk c.publish.new.disk) c.publish.ensures.others
+    (pages_behind (g.D.SectorDisk.disk c.make_room.new.disk) (g.D.SectorDisk.disk c.publish.new.disk) c.publish.ensures.left.others
     (still_honest c.make_room.ensures.longer.time honest)) p behind within
 
 pub returns-then-is_read-clause-cause : goal.returns-then-is_read-clause-cause
 returns-then-is_read-clause-cause g c = (
   grew_since c.make_room.ensures.cause.later (published_grew _ _ _ c.in-Err-publish.ensures.fault),
   inl (lengthened _ _ _ c.args.self.now.sound refl refl refl refl c.make_room.ensures.longer.longer
-      (λ honest. c.publish.ensures.read honest (is_read _ _ c.in-Err-publish.is (c.is_read.ensures.0 c.if-is_read.true)))
-      c.make_room.ensures.longer.time c.publish.ensures.time c.make_room.ensures.longer.moments
-      (λ honest. c.publish.ensures.unwritten honest (is_read _ _ c.in-Err-publish.is (c.is_read.ensures.0 c.if-is_read.true)))
+      (λ honest. c.publish.ensures.unread.read honest (is_read _ _ c.in-Err-publish.is (c.is_read.ensures.0 c.if-is_read.true)))
+      c.make_room.ensures.longer.time c.publish.ensures.left.time c.make_room.ensures.longer.moments
+      (λ honest. c.publish.ensures.unread.unwritten honest (is_read _ _ c.in-Err-publish.is (c.is_read.ensures.0 c.if-is_read.true)))
       (c.publish.ensures.counted.read (is_read _ _ c.in-Err-publish.is (c.is_read.ensures.0 c.if-is_read.true))
       ∙ counted_ok _ (sym c.is_err.ensures.value ∙ c.if-is_err.false) c.make_room.ensures.counted)),
 )
 
 pub invariant_of-self-in-Err-publish : goal.invariant_of-self-in-Err-publish
 invariant_of-self-in-Err-publish g c = record {
-  sound = closed_sound _ _ c.args.self.now.sound (omega (arith, c.make_room.ensures.longer.no_shorter, c.publish.ensures.same_size)) refl refl refl;
+  sound = closed_sound _ _ c.args.self.now.sound (omega (arith, c.make_room.ensures.longer.no_shorter, c.publish.ensures.left.same_size)) refl refl refl;
   blocks = c.args.self.now.blocks;
   unused = c.args.self.now.unused;
   cached = carried _ _ _ _ c.args.self.now.cached (λ p held there. there)
-      (was_honest (goes_on_trans c.make_room.ensures.longer.time c.publish.ensures.time)) (λ p held there kept. kept)
+      (was_honest (goes_on_trans c.make_room.ensures.longer.time c.publish.ensures.left.time)) (λ p held there kept. kept)
       (λ h p held there behind. longer_within _ (g.D.SectorDisk.disk c.make_room.new.disk)
       (g.D.SectorDisk.disk c.publish.new.disk) c.args.self.now.sound (c.make_room.ensures.longer.longer h)
-      (pages_behind (g.D.SectorDisk.disk c.make_room.new.disk) (g.D.SectorDisk.disk c.publish.new.disk) c.publish.ensures.others
+      (pages_behind (g.D.SectorDisk.disk c.make_room.new.disk) (g.D.SectorDisk.disk c.publish.new.disk) c.publish.ensures.left.others
       (still_honest c.make_room.ensures.longer.time h)) p behind
       (c.args.self.now.cached.kept p held there).1);
 }
@@ -245,22 +251,23 @@ returns-else-is_read-clause-grows g c =
     let made = sym c.is_err.ensures.value ∙ c.if-is_err.false in
     let room = (not_err _ made c.make_room.ensures.ok).room in
     record {
-      goes_on = goes_on_trans c.make_room.ensures.longer.time c.publish.ensures.time;
-      no_shorter = omega (arith, c.make_room.ensures.longer.no_shorter, c.publish.ensures.same_size);
-      failures = omega (arith, c.make_room.ensures.cause.later, c.publish.ensures.failures);
+      goes_on = goes_on_trans c.make_room.ensures.longer.time c.publish.ensures.left.time;
+      no_shorter = omega (arith, c.make_room.ensures.longer.no_shorter, c.publish.ensures.left.same_size);
+      failures = omega (arith, c.make_room.ensures.cause.later, c.publish.ensures.left.failures);
       closes = closes_failed refl (grew_since c.make_room.ensures.longer.time.failed_writes
           (c.in-Err-publish.ensures.counted.write (no_read c.is_read.ensures c.if-is_read.false)));
       leaves = λ honest safe.
-          let there = c.publish.ensures.moments (still_honest c.make_room.ensures.longer.time honest)
+          let there = c.publish.ensures.left.moments (still_honest c.make_room.ensures.longer.time honest)
           (rest_longer (c.make_room.ensures.longer.longer honest) safe.rest) in
           grown_leaves _ _ _ _ c.args.pages c.args.self.now.sound (omega (arith, room, c.from.ensures)) c.make_room.ensures.longer.longer
-          (λ h. (not_err _ made c.make_room.ensures.ok).synced h) c.make_room.ensures.longer.time c.publish.ensures.time c.make_room.ensures.longer.moments honest safe there;
+          (λ h. (not_err _ made c.make_room.ensures.ok).synced h) c.make_room.ensures.longer.time c.publish.ensures.left.time
+          c.make_room.ensures.longer.moments honest safe there;
       no_fewer = omega arith;
       holds = same_holds refl;
       held = held_pages _ _ c.args.self.now.sound (λ honest p behind within.
           longer_pages _ (g.D.SectorDisk.disk c.make_room.new.disk) (g.D.SectorDisk.disk c.publish.new.disk) c.args.self.now.sound
           (c.make_room.ensures.longer.longer honest)
-          (pages_behind (g.D.SectorDisk.disk c.make_room.new.disk) (g.D.SectorDisk.disk c.publish.new.disk) c.publish.ensures.others
+          (pages_behind (g.D.SectorDisk.disk c.make_room.new.disk) (g.D.SectorDisk.disk c.publish.new.disk) c.publish.ensures.left.others
           (still_honest c.make_room.ensures.longer.time honest)) p behind within);
     }
 
@@ -268,7 +275,7 @@ pub returns-else-is_read-clause-kept_pages : goal.returns-else-is_read-clause-ke
 returns-else-is_read-clause-kept_pages g c = λ honest p behind within.
     longer_pages _ (g.D.SectorDisk.disk c.make_room.new.disk) (g.D.SectorDisk.disk c.publish.new.disk) c.args.self.now.sound
     (c.make_room.ensures.longer.longer honest)
-    (pages_behind (g.D.SectorDisk.disk c.make_room.new.disk) (g.D.SectorDisk.disk c.publish.new.disk) c.publish.ensures.others
+    (pages_behind (g.D.SectorDisk.disk c.make_room.new.disk) (g.D.SectorDisk.disk c.publish.new.disk) c.publish.ensures.left.others
     (still_honest c.make_room.ensures.longer.time honest)) p behind within
 
 pub returns-else-is_read-clause-cause : goal.returns-else-is_read-clause-cause

@@ -60,6 +60,6 @@ returns-in_err-audit g c = record {
       let stored = g.met.F.GameFile.whole_stored file k ready.0 honest is in
       rw is
       (wide_found k _ stored.1 stored.2 _ (g.met.F.Table.counts_are file stored.0) c.in_ok-source.source.now made
-      (rw c.moves.ensures.is at c.in_err-audit.ensures.wide stored.0 (ap (λ (f : AuditFault). Err f) wide))))
-      c.in_err-audit.ensures.room c.in_err-audit.ensures.fault (λ f fails. g.met.F.GameFile.fails_for file c.audit.new.table f ready.0 fails)));
+      (rw c.moves.ensures.is at c.in_err-audit.ensures.err.wide wide stored.0)))
+      c.in_err-audit.ensures.err.room c.in_err-audit.ensures.err.fault (λ f fails. g.met.F.GameFile.fails_for file c.audit.new.table f ready.0 fails)));
 }

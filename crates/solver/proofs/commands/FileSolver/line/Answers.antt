@@ -57,12 +57,12 @@ returns-in_err-line g c = record {
       (unsettled k _ stored.1 stored.2 _ (g.met.F.Table.counts_are file stored.0) c.in_ok-source.source.now made c.args.number c.in_ok-source.ensures.there
       (stops_unsettled k _ stored.1 stored.2 _
       (g.met.F.Table.counts_are file stored.0) c.in_ok-source.source.now made c.args.number c.in_err-line.field-0.0 none
-      (λ fits. rw c.moves.ensures.is at c.in_err-line.ensures.stops stored.0 fits))))
+      (λ fits. rw c.moves.ensures.is at c.in_err-line.ensures.err.stops stored.0 fits))))
       (λ honest sound.
       let stored = g.met.F.GameFile.whole_stored file k ready.0 honest is in
       let cause = never k _ stored.1 stored.2 _ (g.met.F.Table.counts_are file stored.0) c.in_ok-source.source.now made
       (IsLineCause (view_of (g.F.Table.stored file)) c.args.number c.in_err-line.field-0.0) (rw is at sound)
-      (λ here. rw c.moves.ensures.is at c.in_err-line.ensures.cause stored.0 here) in (
+      (λ here. rw c.moves.ensures.is at c.in_err-line.ensures.err.cause stored.0 here) in (
         (λ i. subst (λ (f : LineFault). IsLineCause (view_of (g.F.Table.stored file)) c.args.number f) i cause),
         (λ i. subst (λ (f : LineFault). IsLineCause (view_of (g.F.Table.stored file)) c.args.number f) i cause),
       ))
@@ -70,6 +70,6 @@ returns-in_err-line g c = record {
       let stored = g.met.F.GameFile.whole_stored file k ready.0 honest is in
       rw is
       (stops_found k _ stored.1 stored.2 _ (g.met.F.Table.counts_are file stored.0) c.in_ok-source.source.now made c.args.number c.in_err-line.field-0.0
-      (λ fits. rw c.moves.ensures.is at c.in_err-line.ensures.stops stored.0 fits)))
-      c.in_err-line.ensures.room c.in_err-line.ensures.fault (λ f fails. g.met.F.GameFile.fails_for file c.line.new.table f ready.0 fails)));
+      (λ fits. rw c.moves.ensures.is at c.in_err-line.ensures.err.stops stored.0 fits)))
+      c.in_err-line.ensures.err.room c.in_err-line.ensures.err.fault (λ f fails. g.met.F.GameFile.fails_for file c.line.new.table f ready.0 fails)));
 }

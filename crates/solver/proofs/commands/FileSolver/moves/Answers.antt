@@ -43,18 +43,18 @@ returns-in_err-known_moves g c = record {
       let stored = g.met.F.GameFile.whole_stored file k ready.0 honest is in
       rw is
       (wide_number k _ stored.1 c.in_ok-source.source.now made c.args.number
-      (rw c.moves.ensures.is at c.in_err-known_moves.ensures.wide stored.0 (ap (λ (f : KnownMovesFault). Err f) wide))))
+      (rw c.moves.ensures.is at c.in_err-known_moves.ensures.err.wide wide stored.0)))
       (λ none. (
         λ honest sound.
             let stored = g.met.F.GameFile.whole_stored file k ready.0 honest is in
             not_sound k _ stored.1 c.in_ok-source.source.now made c.args.number
-            (rw c.moves.ensures.is at c.in_err-known_moves.ensures.none stored.0 (ap (λ (f : KnownMovesFault). Err f) none)) (rw is at sound),
+            (rw c.moves.ensures.is at c.in_err-known_moves.ensures.err.none none stored.0) (rw is at sound),
         λ honest.
             let stored = g.met.F.GameFile.whole_stored file k ready.0 honest is in
             rw is
             (no_position k _ stored.1 c.in_ok-source.source.now made c.args.number
-            (rw c.moves.ensures.is at c.in_err-known_moves.ensures.none stored.0 (ap (λ (f : KnownMovesFault). Err f) none))),
+            (rw c.moves.ensures.is at c.in_err-known_moves.ensures.err.none none stored.0)),
       ))
-      c.in_err-known_moves.ensures.room c.in_err-known_moves.ensures.fault
+      c.in_err-known_moves.ensures.err.room c.in_err-known_moves.ensures.err.fault
       (λ f fails. g.met.F.GameFile.fails_for file c.known_moves.new.table f ready.0 fails)));
 }
