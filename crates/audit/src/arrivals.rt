@@ -1,5 +1,5 @@
 //! How many edges to each number are moves.
-ghost use Rattle.std.specs.Prelude.{◌≡◌, ◌≢◌, ◌<◌, ℕ, List, true, AllPairs, Contains, IfOk, OnOk, IfErr, Err, length};
+ghost use Rattle.std.specs.Prelude.{◌≡◌, ◌≢◌, ◌<◌, ℕ, List, true, AllPairs, Contains, IfOk, OnOk, IfErr, length};
 ghost use Rattle.retrograde.specs.View.{HasNumber};
 ghost use Rattle.retrograde.specs.Stored.{IsTable, view_of, expanded_count};
 ghost use Rattle.table.specs.Memory.{bytes_of_each};

@@ -1,10 +1,9 @@
 //! The moves of an expanded position: they are known, have their edges, and are counted right.
-ghost use Rattle.std.specs.Prelude.{◌≡◌, ◌↔◌, ◌<◌, ◌≤◌, ℕ, List, true, All, IfOk, OnOk, IsOk, IfErr, IfSome, IfNone, Contains, Err, Some};
+ghost use Rattle.std.specs.Prelude.{◌≡◌, ◌↔◌, ◌<◌, ◌≤◌, ℕ, List, true, All, IfOk, IsOk, IfErr, IfSome, IfNone, Contains, Some};
 ghost use Rattle.std.specs.Prelude.{count_by, not, length, slice_get};
 ghost use Rattle.std.specs.List.{AllZip};
 ghost use Rattle.rbg_game.specs.declared.roles.Role.{Role};
-ghost use Rattle.retrograde.specs.View.{HasNumber};
-ghost use Rattle.retrograde.specs.Stored.{HasRecord, IsTable, view_of, is_processed};
+ghost use Rattle.retrograde.specs.Stored.{HasRecord, IsTable, is_processed};
 ghost use Rattle.retrograde.specs.Audit.{HasItsMoves};
 ghost use Rattle.table.specs.Memory.{bytes_of_each};
 ghost use Rattle.table.specs.Faults.{NeedsNoPage};

@@ -1,5 +1,5 @@
 //! The conditions at one number.
-ghost use Rattle.std.specs.Prelude.{◌≡◌, ◌↔◌, ◌⊎◌, ◌<◌, ℕ, List, true, false, IfOk, OnOk, IfErr, Err, Ok, Some, None};
+ghost use Rattle.std.specs.Prelude.{◌≡◌, ◌↔◌, ◌⊎◌, ◌<◌, ℕ, List, true, false, IfOk, IfErr, Ok, Some, None};
 ghost use Rattle.retrograde.specs.View.{HasNumber};
 ghost use Rattle.retrograde.specs.Stored.{HasRecord, IsTable, view_of, expanded_count};
 ghost use Rattle.retrograde.specs.Audit.{IsReached};

@@ -1,5 +1,5 @@
 //! What each settled number is not to be nearer than.
-ghost use Rattle.std.specs.Prelude.{◌≡◌, ◌<◌, ℕ, Some, IfOk, OnOk, IfErr, length, slice_get, slice_set};
+ghost use Rattle.std.specs.Prelude.{◌≡◌, ◌<◌, ℕ, Some, IfOk, IfErr, length, slice_get, slice_set};
 ghost use Rattle.retrograde.specs.Stored.{IsTable};
 ghost use Rattle.table.specs.Faults.{NeedsNoPage};
 ghost use Rattle.audit.specs.Causes.{HasAuditCause};

@@ -1,6 +1,5 @@
 //! The verdict of a table.
-ghost use Rattle.std.specs.Prelude.{◌≡◌, ◌↔◌, ◌^◌, ◌≤◌, ℕ, List, true, IfOk, OnOk, IfErr, Ok, length};
-ghost use Rattle.retrograde.specs.View.{HasNumber};
+ghost use Rattle.std.specs.Prelude.{◌≡◌, IfOk, IfErr, Ok, length};
 ghost use Rattle.retrograde.specs.Stored.{IsTable, view_of, expanded_count};
 ghost use Rattle.retrograde.specs.Sound.{IsLocallySound};
 ghost use Rattle.audit.specs.Answers.{IsAnswer, IsTableSo};

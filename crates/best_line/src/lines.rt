@@ -1,5 +1,5 @@
 //! A best line: the winner wins as soon as he can, and the other side puts it off as long as it can.
-ghost use Rattle.std.specs.Prelude.{◌≡◌, ◌↔◌, ◌<◌, IfOk, OnOk, IfErr, Some, slice_get};
+ghost use Rattle.std.specs.Prelude.{◌≡◌, ◌<◌, IfOk, IfErr, Some, slice_get};
 ghost use Rattle.retrograde.specs.Stored.{IsTable, view_of};
 ghost use Rattle.retrograde.specs.Sound.{IsLocallySound};
 ghost use Rattle.best_line.specs.Lines.{IsBestLine, IsBestPlay, IsToldLine};

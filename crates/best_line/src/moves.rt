@@ -1,5 +1,5 @@
 //! The moves of a known position, with what the table tells of where they lead.
-ghost use Rattle.std.specs.Prelude.{◌≡◌, ◌↔◌, ◌<◌, ℕ, List, All, IfOk, IfErr, IfSome, length, slice_get};
+ghost use Rattle.std.specs.Prelude.{◌≡◌, ◌<◌, ℕ, List, All, IfOk, IfErr, IfSome, length, slice_get};
 ghost use Rattle.retrograde.specs.Stored.{IsTable, view_of};
 ghost use Rattle.retrograde.specs.View.{HasNumber};
 ghost use Rattle.table.specs.Faults.{NeedsNoPage};

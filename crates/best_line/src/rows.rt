@@ -1,5 +1,5 @@
 //! Positions by number, with their values.
-ghost use Rattle.std.specs.Prelude.{◌≡◌, ◌↔◌, ◌-◌, ◌<◌, ◌≤◌, IfOk, OnOk, IfErr, length, min};
+ghost use Rattle.std.specs.Prelude.{◌≡◌, ◌-◌, ◌<◌, ◌≤◌, IfOk, IfErr, length, min};
 ghost use Rattle.retrograde.specs.Stored.{IsTable, view_of};
 ghost use Rattle.best_line.specs.Rows.{AreRows};
 ghost use Rattle.table.specs.Faults.{NeedsNoPage};

@@ -1,5 +1,5 @@
 //! What a table tells of a position by its bytes.
-ghost use Rattle.std.specs.Prelude.{◌≡◌, ◌↔◌, IfOk, IfErr};
+ghost use Rattle.std.specs.Prelude.{IfOk, IfErr};
 ghost use Rattle.retrograde.specs.Stored.{IsTable, view_of};
 ghost use Rattle.table.specs.Faults.{NeedsNoPage};
 ghost use Rattle.table.specs.Frames.{IsRead};

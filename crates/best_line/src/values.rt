@@ -1,5 +1,5 @@
 //! The value of a position.
-ghost use Rattle.std.specs.Prelude.{◌≡◌, ◌↔◌, ◌<◌, ℕ, List, true, IfOk, OnOk, IfErr};
+ghost use Rattle.std.specs.Prelude.{◌≡◌, ◌<◌, ℕ, List, IfOk, IfErr};
 ghost use Rattle.retrograde.specs.Stored.{Stored, HasRecord, IsTable, view_of};
 ghost use Rattle.retrograde.specs.Changes.{counts_of};
 ghost use Rattle.best_line.specs.Values.{IsValue};

@@ -1,5 +1,5 @@
 //! Whether lists show a value.
-ghost use Rattle.std.specs.Prelude.{◌≡◌, ◌↔◌, ℕ, All, true, OnOk, IfErr};
+ghost use Rattle.std.specs.Prelude.{◌≡◌, ◌↔◌, All, true, OnOk, IfErr};
 ghost use Rattle.retrograde.specs.Values.{WonIn, Drawn};
 ghost use Rattle.certificate.specs.Lists.{lines_in};
 ghost use Rattle.certificate.specs.Right.{AreShown};

@@ -1,5 +1,5 @@
 //! The settled order is copied, place by place.
-ghost use Rattle.std.specs.Prelude.{◌≡◌, ◌+◌, ◌<◌, OnOk, IfErr, length};
+ghost use Rattle.std.specs.Prelude.{◌≡◌, ◌+◌, ◌<◌, OnOk, IfErr};
 ghost use Rattle.retrograde.specs.Stored.{IsTable};
 ghost use Rattle.table.specs.Frames.{IsRead, IsWritten};
 ghost use Rattle.earlier_layouts.specs.Copies.{LeavesOfCopy};

@@ -1,5 +1,5 @@
 //! All that the root of a file names is read.
-ghost use Rattle.std.specs.Prelude.{◌≡◌, ◌≤◌, false, Some, length, IfOk, IfErr, IsTrue};
+ghost use Rattle.std.specs.Prelude.{◌≡◌, false, Some, IfOk, IfErr};
 ghost use Rattle.page_store.specs.Frames.{IsReadOn, OnlyMarks};
 ghost use Rattle.page_store.specs.Store.{StoreWorks};
 ghost use Rattle.earlier_layouts.specs.Slot.{commits_in, Says, SaysGame};

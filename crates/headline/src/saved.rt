@@ -1,5 +1,5 @@
 //! The headline in brief: the calls of a table in a file, and what holds of every history of them.
-ghost use Rattle.std.specs.Prelude.{◌≡◌, ◌≤◌, ◌<◌, ℕ, List, Option, None, Some, Ok, IsTrue, IfOk, IfErr, IfSome, OnOk, OnErr};
+ghost use Rattle.std.specs.Prelude.{◌≡◌, ◌<◌, ℕ, List, Option, None, Ok, IsTrue, IfOk, IfErr, IfSome, OnOk, OnErr};
 ghost use Rattle.audit.specs.declared.verdict.Verdict.TheVariants.{Right};
 ghost use Rattle.sector_disk.specs.Disk.{Image, Shown, GoesOn, MayLeave, Grew};
 ghost use Rattle.rbg_game.specs.Goals.{points_of};

@@ -1,5 +1,5 @@
 //! Bytes that are handed to the caller.
-ghost use Rattle.std.specs.Prelude.{◌≡◌, ◌<◌, ◌≤◌, length};
+ghost use Rattle.std.specs.Prelude.{◌≡◌, ◌<◌};
 ghost use Rattle.in_process.specs.Given.{IsGiven, over};
 
 /// The status where a goal is none.

@@ -1,5 +1,5 @@
 //! The tables of a room by their numbers.
-ghost use Rattle.std.specs.Prelude.{◌≡◌, ◌≢◌, ◌++◌, ◌∷◌, ◌<◌, ℕ, [], Some, None, length, slice_index_or, slice_set};
+ghost use Rattle.std.specs.Prelude.{◌≡◌, ◌++◌, ◌∷◌, ◌<◌, [], Some, None, length, slice_index_or, slice_set};
 ghost use Rattle.std.specs.Prelude.{Box, IfOk, OnErr, IfSome, IfNone};
 ghost use Rattle.std.specs.declared.alloc.Global.{Global};
 ghost use Rattle.in_process.specs.declared.held.HeldTable.{HeldTable};

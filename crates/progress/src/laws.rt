@@ -1,5 +1,5 @@
 //! What enough work comes to, whatever stops came; and what work may be refused for.
-ghost use Rattle.std.specs.Prelude.{◌≡◌, ◌⊎◌, ℕ, ◌+◌, ◌*◌, ◌≤◌, ◌^◌, List, Option, None, Some, IsTrue};
+ghost use Rattle.std.specs.Prelude.{◌≡◌, ◌⊎◌, ℕ, ◌+◌, ◌*◌, ◌≤◌, List, Option, None, Some, IsTrue};
 ghost use Rattle.sector_disk.specs.Disk.{Image, Shown, MayLeave};
 ghost use Rattle.rbg_game.specs.Games.{Game};
 ghost use Rattle.rbg_game.specs.declared.roles.Player.TheVariants.{First};

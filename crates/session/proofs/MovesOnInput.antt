@@ -1,6 +1,6 @@
 -- Positions on an input are answered line by line.
-use Rattle.std.proofs.Common.{◌≡◌, ◌≢◌, ◌<◌, ◌≤◌, inl, inr, ℕ, List, [], ◌∷◌, ◌++◌, length, Option, Some, None, true, false, refl, ap, sym, ◌∙◌, subst, append-nil, append_assoc, arith}
-use Rattle.std.specs.Prelude.{IsTrue, OnOk, Result, Ok, Err}
+use Rattle.std.proofs.Common.{◌≡◌, ◌≢◌, ◌<◌, ◌≤◌, inl, inr, ℕ, List, [], ◌∷◌, ◌++◌, length, Option, Some, None, true, false, refl, ap, sym, ◌∙◌, subst, arith}
+use Rattle.std.specs.Prelude.{OnOk, Result, Ok, Err}
 use Rattle.std.specs.Option.{is_some}
 use Rattle.std.specs.Io.KnownBytes.{Appends, IsAtEnd}
 use Rattle.std.proofs.lemmas.Bool.{cases_lt}
@@ -13,7 +13,7 @@ use Rattle.solver.specs.declared.fault.SolverFault.TheVariants.{BadPosition, Out
 use Rattle.session_lines.proofs.Appends.{appends_then, appends_nothing}
 use Rattle.session_lines.proofs.PartLemmas.{part_before, part_behind, whole_part, written_as}
 use Rattle.session.specs.Cut.{IsCutInto}
-use Rattle.session.specs.ByLine.{AnswersPosition, AnswersPositions, AnswersBehind, AreMovesByLine, ArePositionsUnderWay, EndByLine, GoesOnByLine, HasTaken, TellsNoMemory, TellsPosition}
+use Rattle.session.specs.ByLine.{AnswersPosition, AnswersPositions, AreMovesByLine, ArePositionsUnderWay, EndByLine, GoesOnByLine, HasTaken, TellsPosition}
 use Rattle.session.specs.declared.position_line.PositionLine.{PositionLine}
 use Rattle.session.specs.declared.position_line.TheConstants.{MOST_BYTES}
 use Rattle.session.proofs.CutLines.{another_byte, another_line, more_bytes, no_lines, nothing_waits}

@@ -1,5 +1,5 @@
 //! What a session keeps from one line to the next, and its answer to a line.
-ghost use Rattle.std.specs.Prelude.{◌≡◌, ℕ, List, [], Some, None, ◌<◌, ◌≤◌, IsTrue, IfOk, OnErr};
+ghost use Rattle.std.specs.Prelude.{◌≡◌, [], Some, None, ◌<◌, ◌≤◌, IsTrue, IfOk, OnErr};
 ghost use Rattle.solver.specs.Solvers.{state, IsReady};
 ghost use Rattle.session_lines.specs.declared.input.Asked.TheVariants.{Quit};
 ghost use Rattle.session.specs.Cut.{HasRead};

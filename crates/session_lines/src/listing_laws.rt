@@ -1,5 +1,5 @@
 //! What a session prints of a listing: each is a law, which proofs cite by a call.
-ghost use Rattle.std.specs.Prelude.{◌≡◌, ℕ, List, Option, IsTrue};
+ghost use Rattle.std.specs.Prelude.{ℕ, List, Option, IsTrue};
 ghost use Rattle.best_line.specs.Rows.{AreRows};
 ghost use Rattle.best_line.specs.declared.answers.Row.{Row};
 ghost use Rattle.game_file.specs.Kept.{Kept};

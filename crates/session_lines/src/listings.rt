@@ -11,11 +11,9 @@ ghost use Rattle.solver.specs.Solvers.{state, IsReady};
 ghost use Rattle.solver.specs.Units.{units_in};
 ghost use Rattle.solver.specs.declared.listing.Listing.{Listing};
 ghost use Rattle.solver.specs.declared.fault.SolverFault.{SolverFault};
-ghost use Rattle.solver.specs.Faults.{status_of};
 ghost use Rattle.session_lines.specs.Listed.{IsNextText, IsNextTold, IsNoneOpen, IsNext, IsListingReplied, AllLast};
 ghost use Rattle.session_lines.specs.Moments.{noted_in};
 ghost use Rattle.session_lines.specs.Parts.{AppendsPart};
-ghost use Rattle.session_lines.specs.Told.{fault_line};
 
 use crate::input::ListingLine;
 use crate::moments::Moments;

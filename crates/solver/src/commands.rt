@@ -1,6 +1,6 @@
 //! A solver over a disk.
-ghost use Rattle.std.specs.Prelude.{◌≡◌, ◌≤◌, ◌↔◌, ℕ, List, true, false, Option, None, option_map};
-ghost use Rattle.std.specs.Prelude.{IsSome, IsOk, OnOk, IfOk, IfErr, IsErrOf, IsTrue};
+ghost use Rattle.std.specs.Prelude.{◌≡◌, ◌≤◌, ◌↔◌, ℕ, List, false, Option, None, option_map};
+ghost use Rattle.std.specs.Prelude.{IsOk, OnOk, IfOk, IfErr, IsTrue};
 ghost use Rattle.sector_disk.specs.Disk.{Image};
 ghost use Rattle.retrograde.specs.Changes.{counts_of};
 ghost use Rattle.rbg_game.specs.Goals.{points_of};

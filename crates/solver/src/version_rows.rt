@@ -1,5 +1,5 @@
 //! The rows of a version of a table.
-ghost use Rattle.std.specs.Prelude.{◌≡◌, ◌≢◌, ◌+◌, ◌^◌, ◌<◌, ℕ, List, IfOk, IfErr, IsTrue, length};
+ghost use Rattle.std.specs.Prelude.{◌≢◌, ◌+◌, ◌^◌, ◌<◌, ℕ, List, IfOk, IfErr, IsTrue, length};
 ghost use Rattle.best_line.specs.Rows.{AreRows};
 ghost use Rattle.retrograde.specs.Stored.{Stored, IsTable, view_of};
 ghost use Rattle.solver.specs.Listings.{RowsCause};

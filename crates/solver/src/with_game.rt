@@ -1,5 +1,5 @@
 //! The game of a file is made ready as it is opened.
-ghost use Rattle.std.specs.Prelude.{◌≡◌, IfOk, IfErr, OnOk, IsTrue};
+ghost use Rattle.std.specs.Prelude.{IfOk, IfErr, OnOk, IsTrue};
 ghost use Rattle.game_file.specs.Calls.{IsAsked};
 ghost use Rattle.solver.specs.Held.{IsOfAGame};
 ghost use Rattle.solver.specs.Solvers.{state, IsReady};

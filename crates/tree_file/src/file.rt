@@ -1,10 +1,8 @@
 //! A table on trees in a file of one layout.
-ghost use Rattle.std.specs.Prelude.{◌≡◌, ◌↔◌, ◌≢◌, ◌⊎◌, ◌≤◌, ◌<◌, ◌/◌, ℕ, true, None, min, IfOk, IfErr, IsTrue};
+ghost use Rattle.std.specs.Prelude.{◌≡◌, ◌↔◌, ◌⊎◌, ◌≤◌, ◌<◌, ◌/◌, ℕ, true, None, min, IfOk, IfErr, IsTrue};
 ghost use Rattle.tree_file.specs.lemmas.MadeTable.{of_new};
 ghost use Rattle.page_store.specs.declared.limits.TheConstants.{MAX_PAGES};
 ghost use Rattle.game_file.specs.Kept.{in_any};
-ghost use Rattle.game_file.specs.State.{pages_of};
-ghost use Rattle.root_pair.specs.Root.{HoldsRoot};
 ghost use Rattle.game_file.specs.Fields.{commits_in, layout_in};
 ghost use Rattle.game_file.specs.Calls.{IsOpenedFile, IsNotOpened};
 ghost use Rattle.game_file.specs.Causes.{FileOpenCause};

@@ -1,5 +1,4 @@
 //! The table that a command has come to, in a file.
-ghost use Rattle.std.specs.Prelude.{refl};
 ghost use Rattle.page_store.specs.Marks.{free_count};
 ghost use Rattle.tree_table.specs.WorkTable.{IsHonestWork, table_now};
 ghost use Rattle.tree_table.specs.lemmas.Frames as work;

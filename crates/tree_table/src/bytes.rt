@@ -2,7 +2,7 @@
 ghost use Rattle.std.specs.Prelude.{◌≡◌, ◌≤◌, ◌<◌, ◌^◌, ◌++◌, ℕ, List, Some, IfSome, IfNone, IsTrue, false, length};
 ghost use Rattle.retrograde.specs.declared.records.Record.{Record};
 ghost use Rattle.game_file.specs.Bytes.{IsCell, IsNumber, IsPlainCell};
-ghost use Rattle.tree_table.specs.Entries.{number_key, edge_key};
+ghost use Rattle.tree_table.specs.Entries.{number_key};
 ghost use Rattle.tree_table.specs.lemmas.Keys.{key_behind};
 ghost use Rattle.position_pack.specs.declared.limits.TheConstants.{MAX_PACKED};
 

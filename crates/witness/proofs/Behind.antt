@@ -1,5 +1,5 @@
 -- What is known of the disk of the small game's table from one sitting to the next.
-use Rattle.std.proofs.Common.{◌≡◌, ℕ, false, List, [], ◌∷◌, ◌++◌, length, replicate, Option, Some, None, Result, Ok, Err, refl, sym, ap, ◌∙◌, subst, arith}
+use Rattle.std.proofs.Common.{◌≡◌, ℕ, false, List, [], ◌∷◌, ◌++◌, length, replicate, Option, Some, None, Result, Ok, Err, refl, sym, ap, ◌∙◌, subst}
 use Rattle.std.proofs.lemmas.List.{length-replicate}
 use Rattle.std.specs.Prelude.{IsTrue, IfSome, OnOk, OnErr}
 use Rattle.std.specs.List.{AllByRecursion}
@@ -9,7 +9,7 @@ use Rattle.game_file.specs.State.{State, GoesAhead}
 use Rattle.game_file.specs.Kept.{Layout}
 use Rattle.solver.specs.declared.replies.Reply.{Reply}
 use Rattle.solver.specs.Headline.{IsAnsweredBy, LeavesAPrefix}
-use Rattle.solver.specs.Histories.{Sitting, History, was_made, was_reopened, was_not_opened, IsSitting, IsFound, no_call, by_closing}
+use Rattle.solver.specs.Histories.{Sitting, was_made, was_reopened, was_not_opened, IsSitting, IsFound, no_call, by_closing}
 use Rattle.solver.specs.Machine.{Command}
 use Rattle.solver.specs.Opened.{IsCreated, IsOpened}
 use Rattle.witness.specs.lemmas.Sittings.{IsOwn, AreOwn, IsOwnSitting, IsBehindSittings, EndsOwnSitting}

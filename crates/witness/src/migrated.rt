@@ -1,5 +1,5 @@
 //! A table of the layout before today's, whose migration is stopped, begun again, stopped again, and done.
-ghost use Rattle.std.specs.Prelude.{◌≡◌, ℕ, IfOk, IfErr};
+ghost use Rattle.std.specs.Prelude.{◌≡◌, IfOk, IfErr};
 ghost use Rattle.best_line.specs.declared.answers.Value.TheVariants.{Won};
 ghost use Rattle.rbg_game.specs.declared.roles.Player.TheVariants.{First};
 ghost use Rattle.sector_disk.specs.Disk.{IsFresh, Grew};

@@ -1,5 +1,5 @@
 //! Two tables of which the same was asked are one: what `commands_lead_to_one_table` says, of two solvers over two files.
-ghost use Rattle.std.specs.Prelude.{◌≡◌, false, None, IfOk, IsTrue};
+ghost use Rattle.std.specs.Prelude.{◌≡◌, None, IfOk, IsTrue};
 ghost use Rattle.solver.specs.Solvers.{state, IsReady};
 
 use crate::sittings::{text, units};

@@ -1,5 +1,5 @@
 //! An entry is put below a page: down to its leaf the pages are read, and on the way back each is written anew.
-ghost use Rattle.std.specs.Prelude.{◌≡◌, ◌≤◌, ◌+◌, ◌*◌, ℕ, length, OnOk, IfOk, IfErr, IsTrue};
+ghost use Rattle.std.specs.Prelude.{◌≡◌, ◌+◌, ◌*◌, ℕ, length, OnOk, IfOk, IfErr, IsTrue};
 ghost use Rattle.page_store.specs.Frames.{PagesWritten, PagesRefused};
 ghost use Rattle.btree.specs.declared.page.kind.Kind.TheVariants.{Inner};
 ghost use Rattle.btree.specs.lemmas.Causes.{BelowCause};

@@ -1,13 +1,12 @@
 //! An entry is put on its leaf alone, where no page on the way to it has to change.
-ghost use Rattle.std.specs.Prelude.{◌≡◌, ◌≤◌, ◌<◌, ◌+◌, ◌-◌, ◌*◌, ◌∷◌, [], ℕ, false, length, None, Some, IfOk, IfErr, IfSome, IfNone, OnSome, IsTrue};
+ghost use Rattle.std.specs.Prelude.{◌≡◌, ◌≤◌, ◌<◌, ◌-◌, ◌∷◌, [], ℕ, false, length, None, Some, IfOk, IfErr, IfSome, OnSome, IsTrue};
 ghost use Rattle.page_store.specs.declared.marks.Mark.TheVariants.{Fresh};
 ghost use Rattle.page_store.specs.Frames.{PagesWritten, PagesRefused};
 ghost use Rattle.page_store.specs.Marks.{mark as mark_of};
 ghost use Rattle.page_store.specs.Store.{reads};
 ghost use Rattle.btree.specs.declared.page.kind.Kind.{Kind};
 ghost use Rattle.btree.specs.declared.page.kind.Kind.TheVariants.{Leaf, Inner};
-ghost use Rattle.btree.specs.Page.{Item, child_of, count_in, item_width, items_in, IsPage};
-ghost use Rattle.btree.specs.declared.page.kind.TheConstants.{ROOM};
+ghost use Rattle.btree.specs.Page.{Item, child_of, items_in, IsPage};
 ghost use Rattle.btree.specs.Entries.{Ascend, find_entry, first_key, put_entry};
 ghost use Rattle.btree.specs.Tree.{entries_below};
 ghost use Rattle.btree.specs.lemmas.Causes.{WriteCause};

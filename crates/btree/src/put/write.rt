@@ -1,5 +1,5 @@
 //! The items of a page are written, on one page or on two.
-ghost use Rattle.std.specs.Prelude.{◌≡◌, ◌≤◌, ◌<◌, ◌+◌, ◌-◌, ◌*◌, ◌++◌, false, length, take, drop, OnOk, IfOk, IfErr, IsTrue};
+ghost use Rattle.std.specs.Prelude.{◌≡◌, ◌≤◌, ◌<◌, ◌+◌, ◌-◌, ◌*◌, ◌++◌, false, length, take, drop, OnOk, IfOk, IfErr};
 ghost use Rattle.page_store.specs.Frames.{PagesWritten, PagesRefused};
 ghost use Rattle.page_store.specs.Store.{reads};
 ghost use Rattle.btree.specs.declared.page.kind.Kind.TheVariants.{Inner};

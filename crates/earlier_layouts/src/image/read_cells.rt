@@ -1,8 +1,8 @@
 //! Positions and their records are read.
-ghost use Rattle.std.specs.Prelude.{◌≡◌, ◌+◌, ◌-◌, ◌*◌, ◌^◌, ◌≤◌, ◌<◌, ℕ, List, length, take, drop, slice_get, IfOk, OnOk, Some, Err};
+ghost use Rattle.std.specs.Prelude.{◌≡◌, ◌+◌, ◌-◌, ◌*◌, ◌^◌, ◌≤◌, ◌<◌, ℕ, List, length, take, slice_get, IfOk, OnOk, Some, Err};
 ghost use Rattle.retrograde.specs.declared.records.Record.{Record};
 ghost use Rattle.retrograde.specs.Stored.{Stored, IsTable, loaded};
-ghost use Rattle.game_file.specs.Bytes.{IsCell, IsRecord};
+ghost use Rattle.game_file.specs.Bytes.{IsCell};
 ghost use Rattle.earlier_layouts.specs.lemmas.ImageReads.{AreCells, KeepsRest, IsFirstEntry, AddsCell};
 ghost use Rattle.earlier_layouts.specs.declared.image.fault.BytesFault.TheVariants.{Damaged};
 ghost use Rattle.table.specs.InMemory.{stored_in};

@@ -1,5 +1,5 @@
 //! Edges and the settled order are read.
-ghost use Rattle.std.specs.Prelude.{◌≡◌, ◌+◌, ◌*◌, ◌≤◌, ◌<◌, ◌↔◌, ℕ, true, List, length, IfOk, OnOk, Err, Contains};
+ghost use Rattle.std.specs.Prelude.{◌≡◌, ◌*◌, ◌≤◌, ◌<◌, ◌↔◌, ℕ, true, List, length, IfOk, OnOk, Err, Contains};
 ghost use Rattle.std.specs.List.Sorted.{IsStrictlySortedBy};
 ghost use Rattle.retrograde.specs.Changes.{with_edge};
 ghost use Rattle.table.specs.Memory.{edge_cmp};

@@ -1,11 +1,5 @@
-use Rattle.std.proofs.Common.{◌∙◌, List, ap, subst, sym}
-use Rattle.page_store.specs.declared.marks.Mark.{Mark}
-use Rattle.page_store.specs.declared.marks.Mark.TheVariants.{Committed}
-use Rattle.page_store.specs.Marks.{IsMarked}
+use Rattle.std.proofs.Common.{subst, sym}
 use Rattle.page_store.specs.Store.{Store}
-use Rattle.page_store.specs.lemmas.Works.{works_then}
-use Rattle.sector_disk.specs.Disk.{Disk}
-use Rattle.sector_disk.specs.lemmas.Moments.{still_honest}
 use Rattle.page_store.specs.Frames.{OnlyMarks}
 use Rattle.page_store.specs.lemmas.Frames.{marks_none}
 use Rattle.page_chain.proofs.ReadPages.{read_marked}
@@ -31,4 +25,3 @@ returns-in_err-add_page-clause-marks g c =
 pub returns-in_err-add_payload-clause-marks : goal.returns-in_err-add_payload-clause-marks
 returns-in_err-add_payload-clause-marks g c =
     read_marked c.mark.ensures.others c.mark.ensures.works c.in_ok-mark.ensures.ok c.read_page.ensures.unchanged c.read_page.ensures.works
-

@@ -1,5 +1,4 @@
-use Rattle.std.proofs.Common.{◌∙◌, ap, refl, Some}
-use Rattle.session.specs.Sessions.{first_listings, listings_kept}
+use Rattle.std.proofs.Common.{ap, refl, Some}
 use Rattle.session.proofs.Requests.{come_of_none}
 use Rattle.session.proofs.dialogue.begun.Goals as goal
 use Rattle.session.proofs.dialogue.begun.Goals.{in-Session, in-Look}

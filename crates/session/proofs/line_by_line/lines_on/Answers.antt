@@ -1,4 +1,4 @@
-use Rattle.std.proofs.Common.{◌≡◌, ap, refl, subst}
+use Rattle.std.proofs.Common.{ap, refl, subst}
 use Rattle.solver.specs.Solvers.{state}
 use Rattle.session.specs.Seen.{seen}
 use Rattle.session.specs.Sessions.{IsSession, session_state}

@@ -1,5 +1,4 @@
-use Rattle.std.proofs.Common.{ap, Err, rules}
-use Rattle.audit.specs.declared.fault.AuditFault.{AuditFault}
+use Rattle.std.proofs.Common.{rules}
 use Rattle.solver.proofs.Questions.{verdict_found, so_found, sound_found, wide_found, audit_cause, ok_is, audit_asked}
 use Rattle.solver.proofs.Frames.{game_kept, only_asked, untold_first, untold_later}
 use Rattle.solver.proofs.Exits.{passed_on, gives_none, gives_not}

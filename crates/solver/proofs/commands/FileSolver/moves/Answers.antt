@@ -1,5 +1,3 @@
-use Rattle.std.proofs.Common.{ap, Err}
-use Rattle.best_line.specs.declared.known_fault.KnownMovesFault.{KnownMovesFault}
 use Rattle.solver.proofs.Frames.{game_kept, only_asked, untold_first, untold_later}
 use Rattle.solver.proofs.MoveQuestions.{moves_found, wide_number, no_position, not_sound, moves_cause, moves_numbered}
 use Rattle.solver.proofs.Exits.{passed_on, gives_none}
