@@ -14,7 +14,7 @@ use Rattle.numbered_actions.specs.Tokens.{tokens_of, tokens_from, cut_of}
 use Rattle.numbered_actions.specs.Listed.{AreTokensFrom, ShowsTokens, last, further, one_line, IsActionLine, AreActionLines}
 use Rattle.numbered_actions.specs.lemmas.Lines.{with_gap, line_of, IsLineOfStretch}
 use Rattle.numbered_actions.proofs.TokenPlaces.{stand_drop, stand_begins}
-use Rattle.numbered_actions.proofs.Stretches.{each_begins, each_fits}
+use Rattle.numbered_actions.proofs.FoundStretches.{each_begins, each_fits}
 
 -- one line more
 pub one_more_action : (text : Text) (cuts : List Cut) (k number : ℕ) (lines line : List ℕ) (cut : Cut) → slice_get cuts k ≡ Some cut

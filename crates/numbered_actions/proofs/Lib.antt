@@ -5,4 +5,4 @@ mod ActionNumbers
 mod Lengths
 mod TokenPlaces
 mod ActionLines
-mod Stretches
+mod FoundStretches

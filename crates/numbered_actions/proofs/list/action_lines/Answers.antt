@@ -1,4 +1,4 @@
-use Rattle.numbered_actions.proofs.Stretches.{sections_of}
+use Rattle.numbered_actions.proofs.FoundStretches.{sections_of}
 use Rattle.numbered_actions.proofs.list.action_lines.Goals as goal
 
 pub lines_of_actions-requires : goal.lines_of_actions-requires

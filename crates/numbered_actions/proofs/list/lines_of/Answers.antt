@@ -3,7 +3,7 @@ use Rattle.std.proofs.lemmas.List.{length-map, take_all, get_or_default}
 use Rattle.numbered_actions.specs.declared.stretches.Stretch.{Stretch}
 use Rattle.numbered_actions.specs.Listed.{AreActionLines}
 use Rattle.numbered_actions.specs.Tokens.{cut_of}
-use Rattle.numbered_actions.proofs.Stretches.{each_begins}
+use Rattle.numbered_actions.proofs.FoundStretches.{each_begins}
 use Rattle.numbered_actions.proofs.ActionLines.{one_line_more}
 use Rattle.numbered_actions.proofs.list.lines_of.Goals as goal
 

@@ -1,6 +1,6 @@
 use Rattle.std.proofs.Common.{sym, subst}
 use Rattle.numbered_actions.specs.Placed.{Stand}
-use Rattle.numbered_actions.proofs.Stretches.{spelled_by}
+use Rattle.numbered_actions.proofs.FoundStretches.{spelled_by}
 use Rattle.numbered_actions.proofs.list.lines_of_actions.Goals as goal
 
 pub lines_among-requires-clause-spelled : goal.lines_among-requires-clause-spelled
