@@ -1,5 +1,4 @@
-//! Works the table of a game in memory, for `tools/bench` to time: `speed_bench GAME UNITS`.
-#![tactic(auto)]
+//! The moves alone: works the table of a game in memory.
 
 ghost use Rattle.rbg_game.specs.Meaning.{game_of};
 ghost use Rattle.rbg_game.specs.Sound.{IsSoundGame};
@@ -14,45 +13,48 @@ use retrograde::Counts;
 use std::alloc::Global;
 use std::fs;
 use std::io::{self, Read};
-use std::process::ExitCode;
 use table::{MemTable, Table};
+
+/// How it is called.
+pub(crate) const USAGE: &str = "usage: bench speed GAME UNITS";
 
 /// As many bytes as are read of a game text.
 const READ_LIMIT: u64 = 65_537;
 
-fn main(rt: HostRuntime) -> ExitCode {
-    match run(&rt) {
-        Ok(()) => ExitCode::SUCCESS,
-        Err(_) => ExitCode::FAILURE,
-    }
-}
-
-/// Does as many units of work on a table in memory as the words say, and prints how far they came.
-fn run(rt: &HostRuntime) -> io::Result<()> {
+/// Does as many units of work on a table in memory as the words say, and prints how far they came. Answers whether the game could be
+/// read and worked.
+pub(crate) fn run(rt: &HostRuntime, words: &[String]) -> anyhow::Result<bool> {
     let alloc = rt.alloc();
-    let words: Vec<String> = std::env::args(rt)?.collect(alloc)?;
-    let [_, name, units] = words.as_slice() else {
-        return rt.eprintln("usage: speed_bench GAME UNITS");
+    let [name, units] = words else {
+        rt.eprintln(USAGE)?;
+        return Ok(false);
     };
     let mut text: Vec<u8> = Vec::new(alloc);
     fs::File::open(rt, name)?
         .take(READ_LIMIT)
         .read_to_end(&mut text)?;
     let Ok(game) = read_game(alloc, &text) else {
-        return rt.eprintln("the game cannot be read");
+        rt.eprintln("the game cannot be read")?;
+        return Ok(false);
     };
     let limit = units.parse::<u32>().unwrap_or(0);
     solve(rt, alloc, game, limit)
 }
 
-/// Works this many units of the game, and prints how far its table came.
-fn solve(rt: &HostRuntime, alloc: Global, game: Game, limit: u32) -> io::Result<()>
+/// Works this many units of the game, and prints how far its table came. Answers whether it could be worked.
+fn solve(rt: &HostRuntime, alloc: Global, game: Game, limit: u32) -> anyhow::Result<bool>
     requires { IsSoundGame (game_of game) }
 {
     let compiled = Compiled::new(alloc, game, PackingKind::Bytes, None)?;
     match worked(alloc, &compiled, limit) {
-        Ok((units, counts)) => tell(rt, units, counts),
-        Err(fault) => eprintln!(rt; "{fault}"),
+        Ok((units, counts)) => {
+            tell(rt, units, counts)?;
+            Ok(true)
+        }
+        Err(fault) => {
+            eprintln!(rt; "{fault}")?;
+            Ok(false)
+        }
     }
 }
 

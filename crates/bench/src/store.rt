@@ -1,38 +1,28 @@
-//! Works a count on a table in a file, with the moves known beforehand, so that the store alone is timed:
-//! `store_bench FILE LAST PAGES`. The file has its size already. For each line of its input it does 256 units of work and
-//! answers as a session does.
-#![tactic(auto)]
+//! The store alone: works a count on a table in a file, with the moves known beforehand. The file has its size already. For each line of
+//! its input it does 256 units of work and answers as a session does.
 
 mod count;
 
-use crate::count::{Count, begun, work};
+use crate::files::disk_over;
+use crate::store::count::{Count, begun, work};
 use file_disk::FileDisk;
 use game_file::GameFile;
-use std::fs::OpenOptions;
 use std::io::{self, Read};
-use std::process::ExitCode;
 use table::Table;
 
-fn main(rt: HostRuntime) -> ExitCode {
-    match run(&rt) {
-        Ok(()) => ExitCode::SUCCESS,
-        Err(error) => {
-            let _told = eprintln!(rt; "{error}");
-            ExitCode::FAILURE
-        }
-    }
-}
+/// How it is called.
+pub(crate) const USAGE: &str = "usage: bench store FILE LAST PAGES";
 
-/// Does what the words of the command line say.
-fn run(rt: &HostRuntime) -> anyhow::Result<()> {
-    let words: Vec<String> = std::env::args(rt)?.collect(rt.alloc())?;
-    let [_, path, last, pages] = words.as_slice() else {
-        return Ok(rt.eprintln("usage: store_bench FILE LAST PAGES")?);
+/// Makes a table on the file that these words name, and answers each line of the input. Answers whether the words were right.
+pub(crate) fn run(rt: &HostRuntime, words: &[String]) -> anyhow::Result<bool> {
+    let [path, last, pages] = words else {
+        rt.eprintln(USAGE)?;
+        return Ok(false);
     };
     let last = last.parse::<u32>().unwrap_or(0);
     let pages = pages.parse::<usize>().unwrap_or(0).min(64);
-    let file = OpenOptions::new().read(true).write(true).open(rt, path)?;
-    answer_all(rt, FileDisk::new(rt.alloc(), file)?, last, pages)
+    answer_all(rt, disk_over(rt, path)?, last, pages)?;
+    Ok(true)
 }
 
 /// Makes a table on this disk, and answers each line of the input.

@@ -1,51 +1,38 @@
-//! Puts keys into a map that is a tree of pages, and reads them back, for `tools/bench` to time.
-#![tactic(auto)]
+//! Trees alone: puts keys into a map that is a tree of pages, and reads them back.
 
 mod counted_disk;
 mod keys;
 mod measure;
 mod plain_disk;
 
-use crate::counted_disk::CountedDisk;
-use crate::measure::measure;
-use crate::plain_disk::PlainDisk;
-use file_disk::FileDisk;
+use crate::files::disk_over;
+use crate::tree::counted_disk::CountedDisk;
+use crate::tree::measure::measure;
+use crate::tree::plain_disk::PlainDisk;
 use page_store::{PageStore, Pages};
 use root_pair::create;
 use sector_disk::SectorDisk;
-use std::fs::OpenOptions;
-use std::process::ExitCode;
+
+/// How it is called.
+pub(crate) const USAGE: &str = "usage: bench tree KEYS [FILE]";
 
 /// The most keys: this many pages as they take are there to be had.
 const MOST_KEYS: u64 = 10_000_000;
 
-fn main(rt: HostRuntime) -> ExitCode {
-    match run(&rt) {
-        Ok(true) => ExitCode::SUCCESS,
-        Ok(false) => ExitCode::FAILURE,
-        Err(error) => {
-            let _told = eprintln!(rt; "{error}");
-            ExitCode::FAILURE
-        }
-    }
-}
-
 /// Measures as the words say, on a disk in memory or on a file that has its size already. Answers whether each key was
 /// found with its value.
-fn run(rt: &HostRuntime) -> anyhow::Result<bool> {
-    let words: Vec<String> = std::env::args(rt)?.collect(rt.alloc())?;
-    match words.as_slice() {
-        [_, count] => {
+pub(crate) fn run(rt: &HostRuntime, words: &[String]) -> anyhow::Result<bool> {
+    match words {
+        [count] => {
             let keys = count.parse::<u64>().unwrap_or(0).min(MOST_KEYS);
             measure_on(rt, PlainDisk::new(rt.alloc(), sectors_for(keys))?, keys)
         }
-        [_, count, path] => {
+        [count, path] => {
             let keys = count.parse::<u64>().unwrap_or(0).min(MOST_KEYS);
-            let file = OpenOptions::new().read(true).write(true).open(rt, path)?;
-            measure_on(rt, FileDisk::new(rt.alloc(), file)?, keys)
+            measure_on(rt, disk_over(rt, path)?, keys)
         }
         _ => {
-            rt.eprintln("usage: tree_bench KEYS [FILE]")?;
+            rt.eprintln(USAGE)?;
             Ok(false)
         }
     }

@@ -1,6 +1,6 @@
 //! The measuring: all keys are put, each is read, and all are gone through in order.
 
-use crate::keys::{key_of, value_of};
+use crate::tree::keys::{key_of, value_of};
 use btree::find::{get, next_after};
 use btree::page::{Kind, Widths, item_at, kind_of};
 use btree::put::put;

@@ -1,7 +1,7 @@
 use Rattle.std.proofs.Common.{arith}
 use Rattle.sector_disk.specs.lemmas.Moments.{extends_failed}
 use Rattle.sector_disk.specs.lemmas.Unknown.{unknown_extends}
-use Rattle.tree_bench.proofs.plain_disk.PlainDiskSectorDisk.extend.Goals as goal
+use Rattle.bench.proofs.tree.plain_disk.PlainDiskSectorDisk.extend.Goals as goal
 
 pub returns-clause-time : goal.returns-clause-time
 returns-clause-time c =
