@@ -1,7 +1,5 @@
-//! Gives the solver files and texts of any content, and refuses it memory: `any_bytes TAKE` changes each byte of a table,
-//! `any_bytes GAME.. --fuzz SEED ROUNDS` many things at random, and `any_bytes TAKE --memory FILE` makes each call on the table of a file
-//! again where memory was refused.
-#![tactic(auto)]
+//! Gives the solver files and texts of any content, and refuses it memory: changes each byte of a table; with `--fuzz` many things at
+//! random; and with `--memory` makes each call on the table of a file again where memory was refused.
 
 mod asking;
 mod fuzz;
@@ -9,60 +7,38 @@ mod memory;
 mod sweep;
 mod tables;
 
-use crate::fuzz::fuzz;
-use crate::memory::ask_again;
-use crate::sweep::sweep;
-use std::alloc::Global;
-use std::fs;
-use std::io::{self, Read};
-use std::process::ExitCode;
+use crate::any_bytes::fuzz::fuzz;
+use crate::any_bytes::memory::ask_again;
+use crate::any_bytes::sweep::sweep;
+use crate::games::{text_of, texts_of};
 
-/// As many bytes as are read of a game text.
-const READ_LIMIT: u64 = 65_537;
+/// How the trial is called.
+pub(crate) const USAGE: &str =
+    "usage: trials any_bytes TAKE | trials any_bytes TAKE --memory FILE | trials any_bytes GAME.. --fuzz SEED ROUNDS";
 
-fn main(rt: HostRuntime) -> ExitCode {
-    match run(&rt) {
-        Ok(true) => ExitCode::SUCCESS,
-        Ok(false) => ExitCode::FAILURE,
-        Err(error) => {
-            let _told = eprintln!(rt; "{error}");
-            ExitCode::FAILURE
-        }
-    }
-}
-
-/// Does what the words of the command line say. Answers whether all was as it had to be.
-fn run(rt: &HostRuntime) -> anyhow::Result<bool> {
+/// Does what these words say. Answers whether all was as it had to be.
+pub(crate) fn run(rt: &HostRuntime, words: &[String]) -> anyhow::Result<bool> {
     let alloc = rt.alloc();
-    let words: Vec<String> = std::env::args(rt)?.collect(alloc)?;
-    match words.as_slice() {
-        [_, take] => sweep(rt, alloc, &text_of(rt, alloc, take)?),
-        [_, take, option, file] if option.as_str() == "--memory" => {
+    match words {
+        [take] => is_always_answered(rt, take),
+        [take, option, file] if option.as_str() == "--memory" => {
             ask_again(rt, alloc, &text_of(rt, alloc, take)?, file)
         }
-        [_, games @ .., option, seed, rounds] if option.as_str() == "--fuzz" => {
-            let mut texts = Vec::new(alloc);
-            for game in games {
-                texts.push(text_of(rt, alloc, game)?)?;
-            }
+        [games @ .., option, seed, rounds] if option.as_str() == "--fuzz" => {
+            let texts = texts_of(rt, alloc, games)?;
             let seed = seed.parse::<u64>().unwrap_or(0);
             let rounds = rounds.parse::<u64>().unwrap_or(0);
             fuzz(rt, alloc, &texts, seed, rounds)
         }
         _ => {
-            rt.eprintln(
-                "usage: any_bytes TAKE | any_bytes TAKE --memory FILE | any_bytes GAME.. --fuzz SEED ROUNDS",
-            )?;
+            rt.eprintln(USAGE)?;
             Ok(false)
         }
     }
 }
 
-/// The text of a game.
-fn text_of(rt: &HostRuntime, alloc: Global, name: &str) -> io::Result<Vec<u8>> {
-    let mut text: Vec<u8> = Vec::new(alloc);
-    fs::File::open(rt, name)?
-        .take(READ_LIMIT)
-        .read_to_end(&mut text)?;
-    Ok(text)
+/// Changes each byte of a table of the game of takes. Answers whether each changed table was refused, or opened and answered.
+pub(crate) fn is_always_answered(rt: &HostRuntime, take: &str) -> anyhow::Result<bool> {
+    let alloc = rt.alloc();
+    sweep(rt, alloc, &text_of(rt, alloc, take)?)
 }

@@ -1,6 +1,5 @@
-//! Stops the power while tables are made and worked on, and looks at what is left:
-//! `power_failures GAME` at each disk call of a few commands, and `power_failures GAME.. --soak SEED ROUNDS` at random ones.
-#![tactic(auto)]
+//! Stops the power while tables are made and worked on, and looks at what is left: at each disk call of a few commands, and with `--soak`
+//! at random ones.
 
 mod deeds;
 mod growing;
@@ -13,59 +12,36 @@ mod sweep;
 mod watch;
 mod watched;
 
-use crate::growing::growing;
-use crate::soak::soak;
-use crate::sweep::sweep;
-use crate::watch::watch;
-use std::alloc::Global;
-use std::fs;
-use std::io::{self, Read};
-use std::process::ExitCode;
+use crate::games::{text_of, texts_of};
+use crate::power_failures::growing::growing;
+use crate::power_failures::soak::soak;
+use crate::power_failures::sweep::sweep;
+use crate::power_failures::watch::watch;
 
-/// As many bytes as are read of a game text.
-const READ_LIMIT: u64 = 65_537;
+/// How the trial is called.
+pub(crate) const USAGE: &str =
+    "usage: trials power_failures TAKE | trials power_failures GAME.. --soak SEED ROUNDS";
 
-fn main(rt: HostRuntime) -> ExitCode {
-    match run(&rt) {
-        Ok(true) => ExitCode::SUCCESS,
-        Ok(false) => ExitCode::FAILURE,
-        Err(error) => {
-            let _told = eprintln!(rt; "{error}");
-            ExitCode::FAILURE
-        }
-    }
-}
-
-/// Does what the words of the command line say. Answers whether each table was as it had to be.
-fn run(rt: &HostRuntime) -> anyhow::Result<bool> {
-    let alloc = rt.alloc();
-    let words: Vec<String> = std::env::args(rt)?.collect(alloc)?;
-    match words.as_slice() {
-        [_, take] => {
-            let text = text_of(rt, alloc, take)?;
-            Ok(sweep(rt, alloc, &text)? && growing(rt, alloc)? && watch(rt, alloc, &text)?)
-        }
-        [_, games @ .., option, seed, rounds] if option.as_str() == "--soak" => {
-            let mut texts = Vec::new(alloc);
-            for game in games {
-                texts.push(text_of(rt, alloc, game)?)?;
-            }
+/// Does what these words say. Answers whether each table was as it had to be.
+pub(crate) fn run(rt: &HostRuntime, words: &[String]) -> anyhow::Result<bool> {
+    match words {
+        [take] => is_always_kept(rt, take),
+        [games @ .., option, seed, rounds] if option.as_str() == "--soak" => {
+            let texts = texts_of(rt, rt.alloc(), games)?;
             let seed = seed.parse::<u64>().unwrap_or(0);
             let rounds = rounds.parse::<u64>().unwrap_or(0);
-            soak(rt, alloc, &texts, seed, rounds)
+            soak(rt, rt.alloc(), &texts, seed, rounds)
         }
         _ => {
-            rt.eprintln("usage: power_failures TAKE | power_failures GAME.. --soak SEED ROUNDS")?;
+            rt.eprintln(USAGE)?;
             Ok(false)
         }
     }
 }
 
-/// The text of a game.
-fn text_of(rt: &HostRuntime, alloc: Global, name: &str) -> io::Result<Vec<u8>> {
-    let mut text: Vec<u8> = Vec::new(alloc);
-    fs::File::open(rt, name)?
-        .take(READ_LIMIT)
-        .read_to_end(&mut text)?;
-    Ok(text)
+/// Stops the power at each disk call of a few commands on the game of takes. Answers whether each table was as it had to be.
+pub(crate) fn is_always_kept(rt: &HostRuntime, take: &str) -> anyhow::Result<bool> {
+    let alloc = rt.alloc();
+    let text = text_of(rt, alloc, take)?;
+    Ok(sweep(rt, alloc, &text)? && growing(rt, alloc)? && watch(rt, alloc, &text)?)
 }

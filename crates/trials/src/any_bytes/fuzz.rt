@@ -1,9 +1,11 @@
 //! Tables and texts with random changes.
 
-use crate::asking::{Outcome, ask_all};
-use crate::tables::{cut, put_sector, sector, worked};
+use crate::any_bytes::asking::{Outcome, ask_all};
+use crate::any_bytes::tables::{cut, put_sector, worked};
+use crate::random::below;
+use crate::sectors::sector;
 use game_file::GameFile;
-use rand::{Rng, RngExt};
+use rand::RngExt;
 use rand_pcg::Pcg32;
 use rbg_read::read::read_game;
 use recover::TableFile;
@@ -51,15 +53,6 @@ pub fn fuzz(
         tally.files, tally.opened, tally.texts, tally.read
     )?;
     Ok(true)
-}
-
-/// A random number below this one, and 0 where that is 0.
-fn below<R: Rng>(random: &mut R, end: u64) -> u64 {
-    if end == 0 {
-        0
-    } else {
-        random.random_range(0..end)
-    }
 }
 
 /// One round: sixteen changed files and sixteen changed texts of a game.

@@ -1,7 +1,8 @@
 //! Each single byte of a finished table is changed.
 
-use crate::asking::{Outcome, ask_all};
-use crate::tables::{put_sector, sector, worked};
+use crate::any_bytes::asking::{Outcome, ask_all};
+use crate::any_bytes::tables::{put_sector, worked};
+use crate::sectors::{picked_slot, sector, word};
 use recover::TableFile;
 use sector_disk::{MemDisk, SectorDisk};
 use std::alloc::Global;
@@ -30,20 +31,10 @@ pub fn sweep(rt: &HostRuntime, alloc: Global, take: &[u8]) -> anyhow::Result<boo
     Ok(true)
 }
 
-/// The number in the four bytes from here on, the highest first; zero where there are fewer.
-fn word(bytes: &[u8], at: usize) -> u32 {
-    match bytes.get(at..at.saturating_add(4)) {
-        Some([first, second, third, fourth]) => {
-            u32::from_be_bytes([*first, *second, *third, *fourth])
-        }
-        _ => 0,
-    }
-}
-
 /// The first four sectors, and those of the pages that the picked root slot names: the text's, and the one of each tree.
 fn sectors_of(alloc: Global, table: &mut MemDisk) -> anyhow::Result<Vec<u64>> {
-    let gate = sector(table, 1)?;
-    let slot = sector(table, 2 + u64::from(gate[0] % 2))?;
+    let picked = picked_slot(table)?;
+    let slot = sector(table, picked)?;
     let mut sectors = Vec::new(alloc);
     for at in 0..4 {
         sectors.push(at)?;

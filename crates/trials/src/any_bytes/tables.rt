@@ -1,5 +1,6 @@
 //! Tables on disks in memory.
 
+use crate::sectors::sector;
 use game_file::GameFile;
 use recover::TableFile;
 use sector_disk::{MemDisk, SectorDisk};
@@ -45,15 +46,6 @@ fn load_and_work<F: GameFile>(
         }
     }
     Ok(())
-}
-
-/// The bytes of a sector; zeros where there is none.
-pub fn sector(disk: &mut MemDisk, at: u64) -> anyhow::Result<[u8; 512]> {
-    let mut bytes = [0; 512];
-    if at < disk.sectors() {
-        disk.read(at, &mut bytes)?;
-    }
-    Ok(bytes)
 }
 
 /// Puts a sector, if there is one of this number.

@@ -1,5 +1,5 @@
 //! What is changed in a table, one thing at a time.
-use crate::parts::{Edge, Parts};
+use crate::audited_changes::parts::{Edge, Parts};
 use rbg_game::roles::Player;
 use retrograde::{Record, State};
 use std::alloc::Global;

@@ -1,8 +1,8 @@
 //! Whether the audit answers what the second reading says.
-use crate::changes::{Change, changed, changes_of};
-use crate::parts::{Parts, Place, places_of, worked};
-use crate::reading::verdict_of;
-use crate::stored::audited;
+use crate::audited_changes::changes::{Change, changed, changes_of};
+use crate::audited_changes::parts::{Parts, Place, places_of, worked};
+use crate::audited_changes::reading::verdict_of;
+use crate::audited_changes::stored::audited;
 use audit::Verdict;
 use game_table::Source;
 use position_pack::PackingKind;

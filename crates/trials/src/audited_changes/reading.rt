@@ -1,5 +1,5 @@
 //! The conditions of an audit, read once more: each looks at the whole lists for itself.
-use crate::parts::{Edge, Parts, Place};
+use crate::audited_changes::parts::{Edge, Parts, Place};
 use audit::{Reason, Verdict};
 use rbg_game::roles::{Player, Role};
 use retrograde::{Record, State};

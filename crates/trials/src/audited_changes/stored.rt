@@ -1,5 +1,5 @@
 //! A table with these parts in a file, and what the solver says of it.
-use crate::parts::{Edge, Parts};
+use crate::audited_changes::parts::{Edge, Parts};
 use audit::Verdict;
 use game_file::GameFile;
 use game_table::MAX_POSITIONS;

@@ -1,11 +1,12 @@
 //! What tables of all layouts say of one game, compared.
 
-use crate::layout::{First, SECTORS, Second, Third};
-use crate::sitting::{Started, Told, asked_in, begun_in, ended_in, told_of};
+use crate::layouts_compared::layout::{First, SECTORS, Second, Third};
+use crate::layouts_compared::sitting::{Started, Told, asked_in, begun_in, ended_in, told_of};
+use crate::sectors::sector;
 use flat_files::worked_file;
 use page_store::MOST_CACHED;
 use recover::migrate;
-use sector_disk::{MemDisk, SectorDisk};
+use sector_disk::MemDisk;
 use std::alloc::Global;
 use std::fmt::{self, Display, Formatter, Write};
 use std::str::from_utf8;
@@ -157,13 +158,4 @@ fn hold_the_same(second: MemDisk, third: MemDisk, spare: MemDisk) -> anyhow::Res
         }
     }
     Ok(true)
-}
-
-/// The bytes of a sector; zeros where there is none.
-fn sector(disk: &mut MemDisk, at: u64) -> anyhow::Result<[u8; 512]> {
-    let mut bytes = [0; 512];
-    if at < disk.sectors() {
-        disk.read(at, &mut bytes)?;
-    }
-    Ok(bytes)
 }

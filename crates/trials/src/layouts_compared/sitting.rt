@@ -1,6 +1,6 @@
 //! One game, worked to its end in one table, with questions on the way.
 
-use crate::layout::Layout;
+use crate::layouts_compared::layout::Layout;
 use audit::Verdict;
 use page_store::MOST_CACHED;
 use retrograde::Counts;

@@ -1,7 +1,7 @@
 //! What is done to the table on a disk, and how far it came.
 
-use crate::listed::work_beside_listings;
-use crate::standing::Standing;
+use crate::power_failures::listed::work_beside_listings;
+use crate::power_failures::standing::Standing;
 use game_file::{GameFile, Versions};
 use recover::TableFile;
 use sector_disk::MemDisk;

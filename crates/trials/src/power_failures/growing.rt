@@ -1,7 +1,7 @@
 //! A store of pages goes on and grows beside two holds, with trouble at each of its disk calls.
 
-use crate::growth::{Growth, STANDINGS, before, found_on, grown_on};
-use crate::sweep::{TELLING, Trouble, telling};
+use crate::power_failures::growth::{Growth, STANDINGS, before, found_on, grown_on};
+use crate::power_failures::sweep::{TELLING, Trouble, telling};
 use page_store::PageFault;
 use sector_disk::{FlakyDisk, FuseDisk, MemDisk};
 use std::alloc::Global;

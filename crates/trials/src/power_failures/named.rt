@@ -1,19 +1,11 @@
 //! The pages that a file names, found by a reading of the format of its own.
 
-use sector_disk::{MemDisk, SectorDisk};
+use crate::sectors::{picked_slot, sector, word};
+use sector_disk::MemDisk;
 use std::alloc::Global;
 
 /// No file here has more pages.
 const MOST_PAGES: u32 = 4_096;
-
-/// The bytes of a sector; zeros where there is none.
-pub fn sector(disk: &mut MemDisk, at: u64) -> anyhow::Result<[u8; 512]> {
-    let mut bytes = [0; 512];
-    if at < disk.sectors() {
-        disk.read(at, &mut bytes)?;
-    }
-    Ok(bytes)
-}
 
 /// The bytes of a page.
 fn page(disk: &mut MemDisk, number: u32) -> anyhow::Result<[u8; 4096]> {
@@ -23,22 +15,6 @@ fn page(disk: &mut MemDisk, number: u32) -> anyhow::Result<[u8; 4096]> {
         bytes[512 * part..512 * part + 512].copy_from_slice(&read);
     }
     Ok(bytes)
-}
-
-/// The number in the four bytes from here on, the highest first; zero where there are fewer.
-fn word(bytes: &[u8], at: usize) -> u32 {
-    match bytes.get(at..at.saturating_add(4)) {
-        Some([first, second, third, fourth]) => {
-            u32::from_be_bytes([*first, *second, *third, *fourth])
-        }
-        _ => 0,
-    }
-}
-
-/// The sector of the root slot that the gate picks, 2 or 3.
-pub fn picked_slot(disk: &mut MemDisk) -> anyhow::Result<u64> {
-    let gate = sector(disk, 1)?;
-    Ok(2 + u64::from(gate[0] % 2))
 }
 
 /// How many pages the picked root slot tells.

@@ -1,10 +1,11 @@
 //! Random games and commands, stopped at random disk calls, and compared with a table that is never stopped.
 ghost use Rattle.std.specs.Prelude.{◌≤◌};
 
-use crate::standing::is_right_in;
-use crate::watched::WatchedDisk;
+use crate::power_failures::standing::is_right_in;
+use crate::power_failures::watched::WatchedDisk;
+use crate::random::below;
 use game_file::GameFile;
-use rand::{Rng, RngExt};
+use rand::RngExt;
 use rand_pcg::Pcg32;
 use recover::{SecondFile, TableFile};
 use sector_disk::{FuseDisk, MemDisk};
@@ -69,17 +70,6 @@ pub fn soak(
         tally.rounds, tally.stops, tally.ahead
     )?;
     Ok(true)
-}
-
-/// A random number below this one, and 0 where that is 0.
-fn below<R: Rng>(random: &mut R, end: u64) -> u64
-    ensures { result ≤ end }
-{
-    if end == 0 {
-        0
-    } else {
-        random.random_range(0..end)
-    }
 }
 
 /// What is ordered.

@@ -1,7 +1,7 @@
 //! What is found on a disk after a stop.
 
-use crate::named::told_pages;
-use crate::sweep::TELLING;
+use crate::power_failures::named::told_pages;
+use crate::power_failures::sweep::TELLING;
 use audit::Verdict;
 use game_file::GameFile;
 use recover::TableFile;

@@ -1,7 +1,7 @@
 //! Each deed again and again, with another disk call at which the power stops or the device fails.
 
-use crate::deeds::{DEEDS, Deed, Given, Progress, before, done_on};
-use crate::standing::{first_stand, is_right_on, telling_stand};
+use crate::power_failures::deeds::{DEEDS, Deed, Given, Progress, before, done_on};
+use crate::power_failures::standing::{first_stand, is_right_on, telling_stand};
 use recover::TableFile;
 use sector_disk::{FlakyDisk, FuseDisk, MemDisk, SectorDisk};
 use solver::SolverFault;

@@ -1,8 +1,9 @@
 //! In which order a disk is written.
 
-use crate::deeds::{Deed, Given, done_on};
-use crate::named::{named_pages, picked_slot};
-use crate::watched::{Call, WatchedDisk};
+use crate::power_failures::deeds::{Deed, Given, done_on};
+use crate::power_failures::named::named_pages;
+use crate::power_failures::watched::{Call, WatchedDisk};
+use crate::sectors::picked_slot;
 use recover::TableFile;
 use sector_disk::MemDisk;
 use std::alloc::Global;
