@@ -10,7 +10,7 @@ from rbg_parts import estimate, play
 
 ROOT = Path(__file__).resolve().parent.parent.parent
 BATCH = 256
-# bounds that are never used, so that a position has 14 bytes, as store_bench has them
+# bounds that are never used, so that a position has 14 bytes, as `bench store` has them
 COUNT = """#players = white(1), black(1)
 #pieces = e
 #variables = p(1000000), q(1000000), r(1000000), s(1000000), t(255), n({bound})

@@ -1,4 +1,4 @@
-/* For `tools/bench trees`: puts the same keys as `tree_bench` into SQLite or LMDB, with a commit after each 256, and reads
+/* For `tools/bench trees`: puts the same keys as `bench tree` into SQLite or LMDB, with a commit after each 256, and reads
  * each of them. Prints the microseconds of all puts and of all gets. Compiled with -DSQLITE -lsqlite3 or -DLMDB -llmdb.
  *
  *     map KEYS FILE     FILE may be :memory: for SQLite
@@ -24,7 +24,7 @@ static uint64_t now(void) {
     return (uint64_t)time.tv_sec * 1000000 + (uint64_t)time.tv_nsec / 1000;
 }
 
-/* The key with this number: the same bytes as in `tree_bench`. */
+/* The key with this number: the same bytes as in `bench tree`. */
 static void key_of(uint64_t number, unsigned char key[8]) {
     uint64_t mixed = number * UINT64_C(0x9e3779b97f4a7c15);
     for (int place = 0; place < 8; place++)

@@ -24,7 +24,7 @@ def of_program(program: str, folder: Path, keys: int) -> None:
     for where, words in (("memory", []), ("file", [str(table)])):
         with table.open("wb") as file:
             file.truncate(4096 * (keys // 100 + 2_000))
-        done = run([program, str(keys), *words])
+        done = run([program, "tree", str(keys), *words])
         print(row(where, keys, done.errors, done.output), flush=True)
     remove(folder, table.name)
 
@@ -37,7 +37,7 @@ def of_rival(name: str, program: str, folder: Path, keys: int) -> None:
 
 def tell(programs: Programs, folder: Path, counts: list[int]) -> int:
     """Prints a row for each number of keys and each map."""
-    program = programs.path("tree_bench")
+    program = programs.path("bench")
     rivals = {name: compiled(HERE / "map.c", folder, name) for name in ("SQLite", "LMDB")}
     print("| " + " | ".join(HEAD) + " |\n" + "|---" * len(HEAD) + "|")
     for keys in counts:

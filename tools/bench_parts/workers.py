@@ -11,7 +11,7 @@ from .measured import Programs, Taken, compiled, run, units_of
 
 KEPT = 64
 LIBRARIES = ("LMDB", "SQLite", None)
-PROGRAMS = ("solver_main", "store_bench", "speed_bench")
+PROGRAMS = ("solver_main", "bench")
 PROGRAM = "the program"
 HERE = Path(__file__).resolve().parent
 
@@ -62,19 +62,19 @@ def session(program: str, graph: Graph, folder: Path) -> Taken:
 
 
 def store(program: str, graph: Graph, folder: Path) -> Taken:
-    """The count by store_bench, which knows the moves beforehand."""
+    """The count by `bench store`, which knows the moves beforehand."""
     with new_file(folder, "store.table") as table:
         with table.open("wb") as file:
             file.truncate(4096 * graph.pages)
-        done = run([program, str(table), str(graph.last), str(KEPT)], "\n" * graph.commits)
+        done = run([program, "store", str(table), str(graph.last), str(KEPT)], "\n" * graph.commits)
         return done.taken(units_of(done.output))
 
 
 def moves(program: str, graph: Graph, folder: Path) -> Taken:
-    """The game by speed_bench, with the table in memory."""
+    """The game by `bench speed`, with the table in memory."""
     with new_file(folder, "moves.rbg") as game:
         game.write_text(graph.text)
-        done = run([program, str(game), str(BATCH * graph.commits)])
+        done = run([program, "speed", str(game), str(BATCH * graph.commits)])
         return done.taken(units_of(done.output))
 
 
@@ -114,6 +114,6 @@ class Workers:
         """All who work a graph."""
         found = self.of_program("solver_main", PROGRAM, lambda path: session(path, graph, self.folder))
         if graph.last is not None:
-            found += self.of_program("store_bench", "the store alone", lambda path: store(path, graph, self.folder))
-        found += self.of_program("speed_bench", "the moves alone", lambda path: moves(path, graph, self.folder))
+            found += self.of_program("bench", "the store alone", lambda path: store(path, graph, self.folder))
+        found += self.of_program("bench", "the moves alone", lambda path: moves(path, graph, self.folder))
         return found + [Worker(who, lambda path=path: new_rival(path, graph, self.folder)) for who, path in self.rivals()]

@@ -129,7 +129,7 @@ class Command(Case):
     def test_a_quick_table(self):
         status, out, err = self.ran("bench", "--quick", "--only", "rook", *self.built())
         self.assertEqual(status, 0, err)
-        self.assertIn("without speed_bench", err)
+        self.assertIn("without bench", err)
         rows = [line.split("|")[1:3] for line in out.splitlines() if line.startswith("| rook")]
         self.assertEqual([cell.strip() for cell in rows[0]], ["rook", "the program"])
 
