@@ -1,4 +1,4 @@
-//! Works parts of the solver alone, for `tools/bench` to time: the moves, trees of pages, and the store.
+//! Works parts of the solver by themselves, for `tools/bench` to time: the moves, trees of pages, and the store.
 //! `bench NAME ..` works one of them, and `bench each GAME UNITS KEYS` the two that need no file, as the gate does.
 #![tactic(auto)]
 
@@ -9,7 +9,7 @@ mod tree;
 
 use std::process::ExitCode;
 
-/// How both that need no file are called.
+/// How the two that need no file are called at once.
 const EACH: &str = "usage: bench each GAME UNITS KEYS";
 
 fn main(rt: HostRuntime) -> ExitCode {

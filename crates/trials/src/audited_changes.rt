@@ -13,8 +13,8 @@ use crate::games::text_of;
 /// How the trial is called.
 pub(crate) const USAGE: &str = "usage: trials audited_changes STEP GAME..";
 
-/// Compares the tables of each game that these words name, with the first of each so many changes. Answers whether each verdict was that
-/// of the second reading.
+/// Does what these words say, game by game, up to the first verdict that is not that of the second reading. Answers whether there was
+/// none.
 pub(crate) fn run(rt: &HostRuntime, words: &[String]) -> anyhow::Result<bool> {
     let [step, games @ ..] = words else {
         rt.eprintln(USAGE)?;
@@ -29,7 +29,8 @@ pub(crate) fn run(rt: &HostRuntime, words: &[String]) -> anyhow::Result<bool> {
     Ok(true)
 }
 
-/// Compares the tables of a game, with the first of each so many changes. Answers whether each verdict was that of the second reading.
+/// Tries one in `step` of the changes to the tables of a game, and prints its name if each verdict was that of the second reading.
+/// Answers whether it was.
 pub(crate) fn is_as_read(rt: &HostRuntime, game: &str, step: usize) -> anyhow::Result<bool> {
     let alloc = rt.alloc();
     let text = text_of(rt, alloc, game)?;

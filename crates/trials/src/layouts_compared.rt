@@ -11,8 +11,7 @@ use crate::layouts_compared::compare::{Outcome, compare};
 /// How the trial is called.
 pub(crate) const USAGE: &str = "usage: trials layouts_compared UNITS PAGES GAME..";
 
-/// Compares game by game, with so many units of work at most and one table with so many pages in memory. It ends at the first difference.
-/// Answers whether there was none.
+/// Does what these words say, game by game, up to the first difference. Answers whether there was none.
 pub(crate) fn run(rt: &HostRuntime, words: &[String]) -> anyhow::Result<bool> {
     let [units, pages, games @ ..] = words else {
         rt.eprintln(USAGE)?;

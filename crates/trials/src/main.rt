@@ -12,7 +12,7 @@ mod sectors;
 
 use std::process::ExitCode;
 
-/// How all four are called.
+/// How all four are called at once.
 const EACH: &str = "usage: trials each TAKE FORK";
 
 fn main(rt: HostRuntime) -> ExitCode {
