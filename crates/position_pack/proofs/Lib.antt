@@ -9,6 +9,7 @@ pub mod ShiftLemmas
 pub mod ReadLemmas
 pub mod PartFields
 pub mod PieceBits
+pub mod PackedRoom
 pub mod NumberLemmas
 pub mod PackingLemmas
 pub mod TextLemmas

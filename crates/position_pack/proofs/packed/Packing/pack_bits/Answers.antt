@@ -1,175 +1,75 @@
-use Rattle.std.proofs.Common.{◌≡◌, ◌-◌, ◌*◌, ◌++◌, length, ap, ◌∙◌, arith}
+use Rattle.std.proofs.Common.{◌≡◌, ◌-◌, ◌++◌, length, ap, ◌∙◌, arith}
 use Rattle.std.specs.List.{flat_map, sum_by}
-use Rattle.std.proofs.lemmas.List.{length-append}
 use Rattle.position_pack.specs.Fields.{role_code}
 use Rattle.position_pack.specs.Bits.{width, bits_of, field_bits, bytes_of_bits, bytes_by_bits}
 use Rattle.position_pack.specs.lemmas.Streams.{written}
-use Rattle.position_pack.proofs.BitLemmas.{length-bits}
 use Rattle.position_pack.proofs.ShapeLemmas.{shape}
-use Rattle.position_pack.proofs.PartFields.{few_bits}
-use Rattle.position_pack.proofs.PieceBits.{length-piece_bits, by_parts, bits_by_parts}
-use Rattle.position_pack.proofs.ReadLemmas.{length-field_bits}
+use Rattle.position_pack.proofs.PieceBits.{by_parts}
+use Rattle.position_pack.proofs.PackedRoom.{parts_fit, pieces_long, fields_long, value_long}
 use Rattle.position_pack.proofs.packed.Packing.pack_bits.Goals as goal
 
 pub put_piece_bits-requires-clause-room : goal.put_piece_bits-requires-clause-room
 put_piece_bits-requires-clause-room c =
-    let s = shape c.self.inside.pieces c.self.inside.bounds.items c.self.inside.vertices c.self.inside.actions in
-    let most = few_bits s c.self.inside.small in
-    let parts = bits_by_parts s in
-    let none = ap length c.new_writer-writer.ensures.empty in
-    let piece : c.width_of-piece.result ≡ width (s.pieces - 1) = c.width_of-piece.ensures.is ∙ ap width c.from-2.ensures in
-    let ps = ap length c.deref.ensures.0 in
-    let pieces : length c.deref.result.now ≡ s.vertices = omega (arith, ps, c.len.ensures.value, c.from.ensures, c.if-len-from.false) in
-    let product : length c.deref.result.now * c.width_of-piece.result ≡ s.vertices * width (s.pieces - 1) =
-    ap (λ n. n * c.width_of-piece.result) pieces ∙ ap (λ n. s.vertices * n) piece in
-    omega (arith, most, parts, none, product)
+    let pieces : length c.deref.result.now ≡ c.self.inside.vertices = omega
+    (arith, ap length c.deref.ensures.0, c.len.ensures.value, c.from.ensures, c.if-len-from.false) in
+    let fits = parts_fit c.self.inside.small pieces (c.width_of-piece.ensures.is ∙ ap width c.from-2.ensures) in
+    omega (arith, fits, ap length c.new_writer-writer.ensures.empty)
 
 pub put_fields-requires-clause-room : goal.put_fields-requires-clause-room
 put_fields-requires-clause-room c =
-    let s = shape c.self.inside.pieces c.self.inside.bounds.items c.self.inside.vertices c.self.inside.actions in
-    let most = few_bits s c.self.inside.small in
-    let parts = bits_by_parts s in
-    let none = ap length c.new_writer-writer.ensures.empty in
-    let piece : c.width_of-piece.result ≡ width (s.pieces - 1) = c.width_of-piece.ensures.is ∙ ap width c.from-2.ensures in
-    let ps = ap length c.deref.ensures.0 in
-    let pieces : length c.deref.result.now ≡ s.vertices = omega (arith, ps, c.len.ensures.value, c.from.ensures, c.if-len-from.false) in
-    let product : length c.deref.result.now * c.width_of-piece.result ≡ s.vertices * width (s.pieces - 1) =
-    ap (λ n. n * c.width_of-piece.result) pieces ∙ ap (λ n. s.vertices * n) piece in
-    let first =
-    ap length c.put_piece_bits.ensures.bits
-    ∙ length-append (written c.new_writer-writer.result) (flat_map (bits_of c.width_of-piece.result) c.deref.result.now) in
-    let all = length-piece_bits c.width_of-piece.result c.deref.result.now in
-    let bounds = ap (sum_by width) c.deref-2.ensures.0 in
-    omega (arith, most, parts, none, product, first, all, bounds)
+    let pieces : length c.deref.result.now ≡ c.self.inside.vertices = omega
+    (arith, ap length c.deref.ensures.0, c.len.ensures.value, c.from.ensures, c.if-len-from.false) in
+    let fits = parts_fit c.self.inside.small pieces (c.width_of-piece.ensures.is ∙ ap width c.from-2.ensures) in
+    omega (arith, fits, ap length c.new_writer-writer.ensures.empty,
+    pieces_long (written c.new_writer-writer.result) c.deref.result.now c.width_of-piece.result c.put_piece_bits.ensures.bits,
+    ap (sum_by width) c.deref-2.ensures.0)
 
 pub put-requires-clause-room : goal.put-requires-clause-room
 put-requires-clause-room c =
-    let s = shape c.self.inside.pieces c.self.inside.bounds.items c.self.inside.vertices c.self.inside.actions in
-    let most = few_bits s c.self.inside.small in
-    let parts = bits_by_parts s in
-    let none = ap length c.new_writer-writer.ensures.empty in
-    let piece : c.width_of-piece.result ≡ width (s.pieces - 1) = c.width_of-piece.ensures.is ∙ ap width c.from-2.ensures in
-    let ps = ap length c.deref.ensures.0 in
-    let pieces : length c.deref.result.now ≡ s.vertices = omega (arith, ps, c.len.ensures.value, c.from.ensures, c.if-len-from.false) in
-    let product : length c.deref.result.now * c.width_of-piece.result ≡ s.vertices * width (s.pieces - 1) =
-    ap (λ n. n * c.width_of-piece.result) pieces ∙ ap (λ n. s.vertices * n) piece in
-    let first =
-    ap length c.put_piece_bits.ensures.bits
-    ∙ length-append (written c.new_writer-writer.result) (flat_map (bits_of c.width_of-piece.result) c.deref.result.now) in
-    let all = length-piece_bits c.width_of-piece.result c.deref.result.now in
-    let bounds = ap (sum_by width) c.deref-2.ensures.0 in
-    let second =
-    ap length c.put_fields.ensures.bits
-    ∙ length-append (written c.put_piece_bits.new.writer) (field_bits c.deref-2.result.now c.deref-3.result.now) in
-    let values = length-field_bits c.deref-2.result.now c.deref-3.result.now in
-    let vertex : c.width_of-vertex.result ≡ width (s.vertices - 1) = c.width_of-vertex.ensures.is ∙ ap width c.from-3.ensures in
-    omega (arith, most, parts, none, product, first, all, bounds, second, values, vertex)
+    let pieces : length c.deref.result.now ≡ c.self.inside.vertices = omega
+    (arith, ap length c.deref.ensures.0, c.len.ensures.value, c.from.ensures, c.if-len-from.false) in
+    let fits = parts_fit c.self.inside.small pieces (c.width_of-piece.ensures.is ∙ ap width c.from-2.ensures) in
+    omega (arith, fits, ap length c.new_writer-writer.ensures.empty,
+    pieces_long (written c.new_writer-writer.result) c.deref.result.now c.width_of-piece.result c.put_piece_bits.ensures.bits,
+    ap (sum_by width) c.deref-2.ensures.0,
+    fields_long (written c.put_piece_bits.new.writer) c.deref-2.result.now c.deref-3.result.now c.put_fields.ensures.bits, c.width_of-vertex.ensures.is,
+    ap width c.from-3.ensures)
 
 pub put-requires-2-clause-room : goal.put-requires-2-clause-room
 put-requires-2-clause-room c =
-    let s = shape c.self.inside.pieces c.self.inside.bounds.items c.self.inside.vertices c.self.inside.actions in
-    let most = few_bits s c.self.inside.small in
-    let parts = bits_by_parts s in
-    let none = ap length c.new_writer-writer.ensures.empty in
-    let piece : c.width_of-piece.result ≡ width (s.pieces - 1) = c.width_of-piece.ensures.is ∙ ap width c.from-2.ensures in
-    let ps = ap length c.deref.ensures.0 in
-    let pieces : length c.deref.result.now ≡ s.vertices = omega (arith, ps, c.len.ensures.value, c.from.ensures, c.if-len-from.false) in
-    let product : length c.deref.result.now * c.width_of-piece.result ≡ s.vertices * width (s.pieces - 1) =
-    ap (λ n. n * c.width_of-piece.result) pieces ∙ ap (λ n. s.vertices * n) piece in
-    let first =
-    ap length c.put_piece_bits.ensures.bits
-    ∙ length-append (written c.new_writer-writer.result) (flat_map (bits_of c.width_of-piece.result) c.deref.result.now) in
-    let all = length-piece_bits c.width_of-piece.result c.deref.result.now in
-    let bounds = ap (sum_by width) c.deref-2.ensures.0 in
-    let second =
-    ap length c.put_fields.ensures.bits
-    ∙ length-append (written c.put_piece_bits.new.writer) (field_bits c.deref-2.result.now c.deref-3.result.now) in
-    let values = length-field_bits c.deref-2.result.now c.deref-3.result.now in
-    let vertex : c.width_of-vertex.result ≡ width (s.vertices - 1) = c.width_of-vertex.ensures.is ∙ ap width c.from-3.ensures in
-    let third = ap length c.put.ensures.bits ∙ length-append (written c.put_fields.new.writer) (bits_of c.width_of-vertex.result c.from-4.result) in
-    let third_long = length-bits c.width_of-vertex.result c.from-4.result in
-    let role = c.width_of.ensures.is in
-    omega (arith, most, parts, none, product, first, all, bounds, second, values, vertex, third, third_long, role)
+    let pieces : length c.deref.result.now ≡ c.self.inside.vertices = omega
+    (arith, ap length c.deref.ensures.0, c.len.ensures.value, c.from.ensures, c.if-len-from.false) in
+    let fits = parts_fit c.self.inside.small pieces (c.width_of-piece.ensures.is ∙ ap width c.from-2.ensures) in
+    omega (arith, fits, ap length c.new_writer-writer.ensures.empty,
+    pieces_long (written c.new_writer-writer.result) c.deref.result.now c.width_of-piece.result c.put_piece_bits.ensures.bits,
+    ap (sum_by width) c.deref-2.ensures.0,
+    fields_long (written c.put_piece_bits.new.writer) c.deref-2.result.now c.deref-3.result.now c.put_fields.ensures.bits, c.width_of-vertex.ensures.is,
+    ap width c.from-3.ensures, value_long (written c.put_fields.new.writer) c.width_of-vertex.result c.from-4.result c.put.ensures.bits, c.width_of.ensures.is)
 
 pub put-requires-3-clause-room : goal.put-requires-3-clause-room
 put-requires-3-clause-room c =
-    let s = shape c.self.inside.pieces c.self.inside.bounds.items c.self.inside.vertices c.self.inside.actions in
-    let most = few_bits s c.self.inside.small in
-    let parts = bits_by_parts s in
-    let none = ap length c.new_writer-writer.ensures.empty in
-    let piece : c.width_of-piece.result ≡ width (s.pieces - 1) = c.width_of-piece.ensures.is ∙ ap width c.from-2.ensures in
-    let ps = ap length c.deref.ensures.0 in
-    let pieces : length c.deref.result.now ≡ s.vertices = omega (arith, ps, c.len.ensures.value, c.from.ensures, c.if-len-from.false) in
-    let product : length c.deref.result.now * c.width_of-piece.result ≡ s.vertices * width (s.pieces - 1) =
-    ap (λ n. n * c.width_of-piece.result) pieces ∙ ap (λ n. s.vertices * n) piece in
-    let first =
-    ap length c.put_piece_bits.ensures.bits
-    ∙ length-append (written c.new_writer-writer.result) (flat_map (bits_of c.width_of-piece.result) c.deref.result.now) in
-    let all = length-piece_bits c.width_of-piece.result c.deref.result.now in
-    let bounds = ap (sum_by width) c.deref-2.ensures.0 in
-    let second =
-    ap length c.put_fields.ensures.bits
-    ∙ length-append (written c.put_piece_bits.new.writer) (field_bits c.deref-2.result.now c.deref-3.result.now) in
-    let values = length-field_bits c.deref-2.result.now c.deref-3.result.now in
-    let vertex : c.width_of-vertex.result ≡ width (s.vertices - 1) = c.width_of-vertex.ensures.is ∙ ap width c.from-3.ensures in
-    let third = ap length c.put.ensures.bits ∙ length-append (written c.put_fields.new.writer) (bits_of c.width_of-vertex.result c.from-4.result) in
-    let third_long = length-bits c.width_of-vertex.result c.from-4.result in
-    let role = c.width_of.ensures.is in
-    let fourth = ap length c.put-2.ensures.bits ∙ length-append (written c.put.new.writer) (bits_of c.width_of.result c.from-5.result) in
-    let fourth_long = length-bits c.width_of.result c.from-5.result in
-    let place : c.width_of-2.result ≡ width s.actions = c.width_of-2.ensures.is ∙ ap width c.from-6.ensures in
-    omega (arith, most, parts, none, product, first, all, bounds, second, values, vertex, third, third_long, role, fourth, fourth_long, place)
+    let pieces : length c.deref.result.now ≡ c.self.inside.vertices = omega
+    (arith, ap length c.deref.ensures.0, c.len.ensures.value, c.from.ensures, c.if-len-from.false) in
+    let fits = parts_fit c.self.inside.small pieces (c.width_of-piece.ensures.is ∙ ap width c.from-2.ensures) in
+    omega (arith, fits, ap length c.new_writer-writer.ensures.empty,
+    pieces_long (written c.new_writer-writer.result) c.deref.result.now c.width_of-piece.result c.put_piece_bits.ensures.bits,
+    ap (sum_by width) c.deref-2.ensures.0,
+    fields_long (written c.put_piece_bits.new.writer) c.deref-2.result.now c.deref-3.result.now c.put_fields.ensures.bits, c.width_of-vertex.ensures.is,
+    ap width c.from-3.ensures, value_long (written c.put_fields.new.writer) c.width_of-vertex.result c.from-4.result c.put.ensures.bits, c.width_of.ensures.is,
+    value_long (written c.put.new.writer) c.width_of.result c.from-5.result c.put-2.ensures.bits, c.width_of-2.ensures.is, ap width c.from-6.ensures)
 
 pub finish-requires-clause-room : goal.finish-requires-clause-room
 finish-requires-clause-room c =
-    let s = shape c.self.inside.pieces c.self.inside.bounds.items c.self.inside.vertices c.self.inside.actions in
-    let most = few_bits s c.self.inside.small in
-    let parts = bits_by_parts s in
-    let none = ap length c.new_writer-writer.ensures.empty in
-    let piece : c.width_of-piece.result ≡ width (s.pieces - 1) = c.width_of-piece.ensures.is ∙ ap width c.from-2.ensures in
-    let ps = ap length c.deref.ensures.0 in
-    let pieces : length c.deref.result.now ≡ s.vertices = omega (arith, ps, c.len.ensures.value, c.from.ensures, c.if-len-from.false) in
-    let product : length c.deref.result.now * c.width_of-piece.result ≡ s.vertices * width (s.pieces - 1) =
-    ap (λ n. n * c.width_of-piece.result) pieces ∙ ap (λ n. s.vertices * n) piece in
-    let first =
-    ap length c.put_piece_bits.ensures.bits
-    ∙ length-append (written c.new_writer-writer.result) (flat_map (bits_of c.width_of-piece.result) c.deref.result.now) in
-    let all = length-piece_bits c.width_of-piece.result c.deref.result.now in
-    let bounds = ap (sum_by width) c.deref-2.ensures.0 in
-    let second =
-    ap length c.put_fields.ensures.bits
-    ∙ length-append (written c.put_piece_bits.new.writer) (field_bits c.deref-2.result.now c.deref-3.result.now) in
-    let values = length-field_bits c.deref-2.result.now c.deref-3.result.now in
-    let vertex : c.width_of-vertex.result ≡ width (s.vertices - 1) = c.width_of-vertex.ensures.is ∙ ap width c.from-3.ensures in
-    let third = ap length c.put.ensures.bits ∙ length-append (written c.put_fields.new.writer) (bits_of c.width_of-vertex.result c.from-4.result) in
-    let third_long = length-bits c.width_of-vertex.result c.from-4.result in
-    let role = c.width_of.ensures.is in
-    let fourth = ap length c.put-2.ensures.bits ∙ length-append (written c.put.new.writer) (bits_of c.width_of.result c.from-5.result) in
-    let fourth_long = length-bits c.width_of.result c.from-5.result in
-    let place : c.width_of-2.result ≡ width s.actions = c.width_of-2.ensures.is ∙ ap width c.from-6.ensures in
-    let fifth = ap length c.put-3.ensures.bits ∙ length-append (written c.put-2.new.writer) (bits_of c.width_of-2.result c.from-7.result) in
-    let fifth_long = length-bits c.width_of-2.result c.from-7.result in
-    omega (
-      arith,
-      most,
-      parts,
-      none,
-      product,
-      first,
-      all,
-      bounds,
-      second,
-      values,
-      vertex,
-      third,
-      third_long,
-      role,
-      fourth,
-      fourth_long,
-      place,
-      fifth,
-      fifth_long,
-    )
+    let pieces : length c.deref.result.now ≡ c.self.inside.vertices = omega
+    (arith, ap length c.deref.ensures.0, c.len.ensures.value, c.from.ensures, c.if-len-from.false) in
+    let fits = parts_fit c.self.inside.small pieces (c.width_of-piece.ensures.is ∙ ap width c.from-2.ensures) in
+    omega (arith, fits, ap length c.new_writer-writer.ensures.empty,
+    pieces_long (written c.new_writer-writer.result) c.deref.result.now c.width_of-piece.result c.put_piece_bits.ensures.bits,
+    ap (sum_by width) c.deref-2.ensures.0,
+    fields_long (written c.put_piece_bits.new.writer) c.deref-2.result.now c.deref-3.result.now c.put_fields.ensures.bits, c.width_of-vertex.ensures.is,
+    ap width c.from-3.ensures, value_long (written c.put_fields.new.writer) c.width_of-vertex.result c.from-4.result c.put.ensures.bits, c.width_of.ensures.is,
+    value_long (written c.put.new.writer) c.width_of.result c.from-5.result c.put-2.ensures.bits, c.width_of-2.ensures.is, ap width c.from-6.ensures,
+    value_long (written c.put-2.new.writer) c.width_of-2.result c.from-7.result c.put-3.ensures.bits)
 
 pub returns : goal.returns
 returns c =
