@@ -20,56 +20,90 @@ put_fields-requires-clause-room c =
     let pieces : length c.deref.result.now ≡ c.self.inside.vertices = omega
     (arith, ap length c.deref.ensures.0, c.len.ensures.value, c.from.ensures, c.if-len-from.false) in
     let fits = parts_fit c.self.inside.small pieces (c.width_of-piece.ensures.is ∙ ap width c.from-2.ensures) in
-    omega (arith, fits, ap length c.new_writer-writer.ensures.empty,
-    pieces_long (written c.new_writer-writer.result) c.deref.result.now c.width_of-piece.result c.put_piece_bits.ensures.bits,
-    ap (sum_by width) c.deref-2.ensures.0)
+    omega (
+      arith,
+      fits,
+      ap length c.new_writer-writer.ensures.empty,
+      pieces_long (written c.new_writer-writer.result) c.deref.result.now c.width_of-piece.result c.put_piece_bits.ensures.bits,
+      ap (sum_by width) c.deref-2.ensures.0,
+    )
 
 pub put-requires-clause-room : goal.put-requires-clause-room
 put-requires-clause-room c =
     let pieces : length c.deref.result.now ≡ c.self.inside.vertices = omega
     (arith, ap length c.deref.ensures.0, c.len.ensures.value, c.from.ensures, c.if-len-from.false) in
     let fits = parts_fit c.self.inside.small pieces (c.width_of-piece.ensures.is ∙ ap width c.from-2.ensures) in
-    omega (arith, fits, ap length c.new_writer-writer.ensures.empty,
-    pieces_long (written c.new_writer-writer.result) c.deref.result.now c.width_of-piece.result c.put_piece_bits.ensures.bits,
-    ap (sum_by width) c.deref-2.ensures.0,
-    fields_long (written c.put_piece_bits.new.writer) c.deref-2.result.now c.deref-3.result.now c.put_fields.ensures.bits, c.width_of-vertex.ensures.is,
-    ap width c.from-3.ensures)
+    omega (
+      arith,
+      fits,
+      ap length c.new_writer-writer.ensures.empty,
+      pieces_long (written c.new_writer-writer.result) c.deref.result.now c.width_of-piece.result c.put_piece_bits.ensures.bits,
+      ap (sum_by width) c.deref-2.ensures.0,
+      fields_long (written c.put_piece_bits.new.writer) c.deref-2.result.now c.deref-3.result.now c.put_fields.ensures.bits,
+      c.width_of-vertex.ensures.is,
+      ap width c.from-3.ensures,
+    )
 
 pub put-requires-2-clause-room : goal.put-requires-2-clause-room
 put-requires-2-clause-room c =
     let pieces : length c.deref.result.now ≡ c.self.inside.vertices = omega
     (arith, ap length c.deref.ensures.0, c.len.ensures.value, c.from.ensures, c.if-len-from.false) in
     let fits = parts_fit c.self.inside.small pieces (c.width_of-piece.ensures.is ∙ ap width c.from-2.ensures) in
-    omega (arith, fits, ap length c.new_writer-writer.ensures.empty,
-    pieces_long (written c.new_writer-writer.result) c.deref.result.now c.width_of-piece.result c.put_piece_bits.ensures.bits,
-    ap (sum_by width) c.deref-2.ensures.0,
-    fields_long (written c.put_piece_bits.new.writer) c.deref-2.result.now c.deref-3.result.now c.put_fields.ensures.bits, c.width_of-vertex.ensures.is,
-    ap width c.from-3.ensures, value_long (written c.put_fields.new.writer) c.width_of-vertex.result c.from-4.result c.put.ensures.bits, c.width_of.ensures.is)
+    omega (
+      arith,
+      fits,
+      ap length c.new_writer-writer.ensures.empty,
+      pieces_long (written c.new_writer-writer.result) c.deref.result.now c.width_of-piece.result c.put_piece_bits.ensures.bits,
+      ap (sum_by width) c.deref-2.ensures.0,
+      fields_long (written c.put_piece_bits.new.writer) c.deref-2.result.now c.deref-3.result.now c.put_fields.ensures.bits,
+      c.width_of-vertex.ensures.is,
+      ap width c.from-3.ensures,
+      value_long (written c.put_fields.new.writer) c.width_of-vertex.result c.from-4.result c.put.ensures.bits,
+      c.width_of.ensures.is,
+    )
 
 pub put-requires-3-clause-room : goal.put-requires-3-clause-room
 put-requires-3-clause-room c =
     let pieces : length c.deref.result.now ≡ c.self.inside.vertices = omega
     (arith, ap length c.deref.ensures.0, c.len.ensures.value, c.from.ensures, c.if-len-from.false) in
     let fits = parts_fit c.self.inside.small pieces (c.width_of-piece.ensures.is ∙ ap width c.from-2.ensures) in
-    omega (arith, fits, ap length c.new_writer-writer.ensures.empty,
-    pieces_long (written c.new_writer-writer.result) c.deref.result.now c.width_of-piece.result c.put_piece_bits.ensures.bits,
-    ap (sum_by width) c.deref-2.ensures.0,
-    fields_long (written c.put_piece_bits.new.writer) c.deref-2.result.now c.deref-3.result.now c.put_fields.ensures.bits, c.width_of-vertex.ensures.is,
-    ap width c.from-3.ensures, value_long (written c.put_fields.new.writer) c.width_of-vertex.result c.from-4.result c.put.ensures.bits, c.width_of.ensures.is,
-    value_long (written c.put.new.writer) c.width_of.result c.from-5.result c.put-2.ensures.bits, c.width_of-2.ensures.is, ap width c.from-6.ensures)
+    omega (
+      arith,
+      fits,
+      ap length c.new_writer-writer.ensures.empty,
+      pieces_long (written c.new_writer-writer.result) c.deref.result.now c.width_of-piece.result c.put_piece_bits.ensures.bits,
+      ap (sum_by width) c.deref-2.ensures.0,
+      fields_long (written c.put_piece_bits.new.writer) c.deref-2.result.now c.deref-3.result.now c.put_fields.ensures.bits,
+      c.width_of-vertex.ensures.is,
+      ap width c.from-3.ensures,
+      value_long (written c.put_fields.new.writer) c.width_of-vertex.result c.from-4.result c.put.ensures.bits,
+      c.width_of.ensures.is,
+      value_long (written c.put.new.writer) c.width_of.result c.from-5.result c.put-2.ensures.bits,
+      c.width_of-2.ensures.is,
+      ap width c.from-6.ensures,
+    )
 
 pub finish-requires-clause-room : goal.finish-requires-clause-room
 finish-requires-clause-room c =
     let pieces : length c.deref.result.now ≡ c.self.inside.vertices = omega
     (arith, ap length c.deref.ensures.0, c.len.ensures.value, c.from.ensures, c.if-len-from.false) in
     let fits = parts_fit c.self.inside.small pieces (c.width_of-piece.ensures.is ∙ ap width c.from-2.ensures) in
-    omega (arith, fits, ap length c.new_writer-writer.ensures.empty,
-    pieces_long (written c.new_writer-writer.result) c.deref.result.now c.width_of-piece.result c.put_piece_bits.ensures.bits,
-    ap (sum_by width) c.deref-2.ensures.0,
-    fields_long (written c.put_piece_bits.new.writer) c.deref-2.result.now c.deref-3.result.now c.put_fields.ensures.bits, c.width_of-vertex.ensures.is,
-    ap width c.from-3.ensures, value_long (written c.put_fields.new.writer) c.width_of-vertex.result c.from-4.result c.put.ensures.bits, c.width_of.ensures.is,
-    value_long (written c.put.new.writer) c.width_of.result c.from-5.result c.put-2.ensures.bits, c.width_of-2.ensures.is, ap width c.from-6.ensures,
-    value_long (written c.put-2.new.writer) c.width_of-2.result c.from-7.result c.put-3.ensures.bits)
+    omega (
+      arith,
+      fits,
+      ap length c.new_writer-writer.ensures.empty,
+      pieces_long (written c.new_writer-writer.result) c.deref.result.now c.width_of-piece.result c.put_piece_bits.ensures.bits,
+      ap (sum_by width) c.deref-2.ensures.0,
+      fields_long (written c.put_piece_bits.new.writer) c.deref-2.result.now c.deref-3.result.now c.put_fields.ensures.bits,
+      c.width_of-vertex.ensures.is,
+      ap width c.from-3.ensures,
+      value_long (written c.put_fields.new.writer) c.width_of-vertex.result c.from-4.result c.put.ensures.bits,
+      c.width_of.ensures.is,
+      value_long (written c.put.new.writer) c.width_of.result c.from-5.result c.put-2.ensures.bits,
+      c.width_of-2.ensures.is,
+      ap width c.from-6.ensures,
+      value_long (written c.put-2.new.writer) c.width_of-2.result c.from-7.result c.put-3.ensures.bits,
+    )
 
 pub returns : goal.returns
 returns c =
