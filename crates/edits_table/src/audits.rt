@@ -23,7 +23,7 @@ pub fn verdict<M: MoveSource, T: Table>(
     audit::audit(alloc, source, table)
 }
 
-/// `wide` of `audit`.
+/// `wide` in `err` of `audit`.
 pub fn refused_verdict<M: MoveSource, T: Table>(
     alloc: Global,
     source: &M,

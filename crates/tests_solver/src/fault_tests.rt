@@ -28,9 +28,9 @@ const TO_OPEN_UNCACHED: u64 = 4 + 8 * 8;
 const TO_WORK: u64 = 8 * (1 + 5) + (6 * 2 + 7 + 7 + 2 - 5);
 
 /// How many calls the work takes with no page in memory. A look at a tree reads its page, and a put reads and writes it; the first edge
-/// and the first settled number write alone. A unit reads the position (1 page; that of number 0 was seen as the table was opened), looks for the number of each
-/// successor (1), puts a new one into positions and records (4), looks for its edge and puts it (3), and puts the record of the position,
-/// whose cell it has seen (2); one that is settled is put into the order (2). So the positions 0 to 6 take 8, 19, 11, 15, 4, 11 and 5 pages.
+/// and the first settled number write alone. A unit reads the position (1 page; that of number 0 was seen as the table was
+/// opened), looks for the number of each successor (1), puts a new one into positions and records (4), looks for its edge
+/// and puts it (3), and puts the record of the position, whose cell it has seen (2); one that is settled is put into the order (2). So the positions 0 to 6 take 8, 19, 11, 15, 4, 11 and 5 pages.
 const TO_WORK_UNCACHED: u64 = 8 * 73;
 
 /// The disk calls of a commit: the gate is read, the slot is written and synced, and the gate is written and synced.

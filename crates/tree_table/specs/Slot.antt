@@ -2,7 +2,8 @@
 use Rattle.std.specs.Prelude.{◌≡◌, ◌+◌, ◌≤◌, ◌<◌, List, ℕ, Option, None, Some, slice_index}
 use Rattle.position_pack.specs.declared.kind.PackingKind.{PackingKind}
 use Rattle.rbg_game.specs.declared.limits.TheConstants.{MAX_POINTS}
-use Rattle.game_file.specs.Fields.{word_at, layout_in, commits_in, capacity_in, packing_in, number_of_packing, kind_in, first_in, sizes_in, goal_number_in, goal_numbered, AreZero, HasPlaceFor, SaysPages}
+use Rattle.game_file.specs.Fields.{word_at, layout_in, commits_in, capacity_in, packing_in, number_of_packing, kind_in}
+use Rattle.game_file.specs.Fields.{first_in, sizes_in, goal_number_in, goal_numbered, AreZero, HasPlaceFor, SaysPages}
 use Rattle.game_file.specs.declared.sizes.Sizes.{Sizes}
 use Rattle.game_file.specs.Numbers.{AreWithinLimits}
 use Rattle.tree_table.specs.declared.slot.TreeSlot.{TreeSlot}

@@ -26,10 +26,13 @@ use Rattle.game_file.specs.State.{State}
 use Rattle.solver.specs.Held.{IsSound, graph_in, wide_in}
 use Rattle.solver.specs.Machine.{Command, load, work, LoadCause, WorkCause, IsUnfinished, IsShortOfPages, IsCommandShort, StopsAt, HasReason}
 use Rattle.solver.specs.declared.fault.SolverFault.{SolverFault}
-use Rattle.solver.specs.declared.fault.SolverFault.TheVariants.{Disk, NotATable, AlreadyATable, Damaged, OldLayout, TooSmall, TableFull, OutOfMemory, Closed, Game as BadGame}
-use Rattle.solver.specs.declared.fault.SolverFault.TheVariants.{NoGame, GameAlready, KeeperChooses, TooWide, TooManyPositions, Inconsistent, NoSuchPosition, NotSettled, ListingsUsedUp, BadPosition}
+use Rattle.solver.specs.declared.fault.SolverFault.TheVariants.{Disk, NotATable, AlreadyATable, Damaged, OldLayout}
+use Rattle.solver.specs.declared.fault.SolverFault.TheVariants.{TooSmall, TableFull, OutOfMemory, Closed, Game as BadGame}
+use Rattle.solver.specs.declared.fault.SolverFault.TheVariants.{NoGame, GameAlready, KeeperChooses, TooWide, TooManyPositions}
+use Rattle.solver.specs.declared.fault.SolverFault.TheVariants.{Inconsistent, NoSuchPosition, NotSettled, ListingsUsedUp, BadPosition}
 use Rattle.solver.specs.declared.replies.Reply.TheVariants.{Refused}
-use Rattle.headline.specs.Tables.{BriefTable, play_of, ComesTo, ComesToMore, KeeperHasChoice, IsLeftToDo, IsShort, IsShortFor, RefusesText, RefusesWork, to_do, MayRefuse}
+use Rattle.headline.specs.Tables.{BriefTable, play_of, ComesTo, ComesToMore, KeeperHasChoice, IsLeftToDo}
+use Rattle.headline.specs.Tables.{IsShort, IsShortFor, RefusesText, RefusesWork, to_do, MayRefuse}
 use Rattle.headline.specs.lemmas.Told.{IsToldBy, brief_of, brief_is_so, finished_up}
 use Rattle.headline.specs.lemmas.FewMoves.{few_down}
 use Rattle.headline.specs.lemmas.Limit.{comes_to_more}
