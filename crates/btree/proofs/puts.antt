@@ -1,7 +1,6 @@
 pub mod Faults
 pub mod FreePages
 pub mod InPlace
-pub mod Elsewhere
 pub mod Replacements
 pub mod Levels
 pub mod Roots

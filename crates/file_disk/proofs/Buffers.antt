@@ -1,7 +1,7 @@
 -- What a stop leaves of a file, from one thing that happens to it to the next.
-use Rattle.std.proofs.Common.{◌≡◌, ◌⊎◌, inl, inr, ℕ, zero, suc, ◌+◌, ◌-◌, ◌*◌, ◌/◌, ◌<◌, ◌≤◌, Bool, true, false, List, [], ◌∷◌, ◌++◌, length, take, drop, Some, None}
+use Rattle.std.proofs.Common.{◌≡◌, ◌⊎◌, inl, inr, ℕ, zero, suc, ◌+◌, ◌*◌, ◌/◌, ◌<◌, ◌≤◌, Bool, false, List, [], ◌∷◌, ◌++◌, length, take, drop, Some, None}
 use Rattle.std.proofs.Common.{refl, sym, ap, subst, ◌∙◌, arith, length-append}
-use Rattle.std.specs.Prelude.{Option, IsTrue, ◌&&◌, min, nat_lt, nat_le, is_some, if◌then◌else◌}
+use Rattle.std.specs.Prelude.{Option, IsTrue, ◌&&◌, min, nat_lt, is_some, if◌then◌else◌}
 use Rattle.std.specs.List.{AllByRecursion}
 use Rattle.std.proofs.lemmas.Bool.{cases_lt, lt-ltb, le-ltb, le-leb}
 use Rattle.std.proofs.lemmas.List.{drop-append-le, take-append-le, take_all}
@@ -11,10 +11,8 @@ use Rattle.file_disk.specs.declared.file_event.FileEvent.{FileEvent}
 use Rattle.file_disk.specs.declared.file_event.FileEvent.TheVariants.{Wrote, Synced, Resized}
 use Rattle.file_disk.specs.declared.waiting_writes.WaitingWrites.{WaitingWrites}
 use Rattle.file_disk.specs.Buffers.{Buffers, HasNoRoomBehind, waits, is_missing, is_calm, buffered_now}
-use Rattle.file_disk.specs.Bytes.{sector_of}
-use Rattle.file_disk.specs.Events.{Happened, had_first, Adds, IsLengthening, EndsAtSector, Lengthens, LengthensOnly}
+use Rattle.file_disk.specs.Events.{Happened, had_first, IsLengthening, EndsAtSector, Lengthens, LengthensOnly}
 use Rattle.file_disk.specs.Past.{Standing, found, touches, stands_by, stands_after, stands, file_shown, shown_then}
-use Rattle.file_disk.specs.Shown.{shown, Waits}
 use Rattle.file_disk.specs.Touched.{IsWriteOf, WritesWaiting, WritesOnly}
 use Rattle.file_disk.specs.WaitingSectors.{slot_of}
 use Rattle.file_disk.specs.lemmas.Narrow.{calm_is, unwaited, narrow, now_allowed}

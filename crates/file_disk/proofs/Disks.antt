@@ -1,13 +1,14 @@
 -- The buffers of an honest file keep the promises of a disk.
 use Rattle.std.proofs.Common.{◌≡◌, ◌≢◌, ◌⊎◌, inl, inr, ℕ, zero, suc, ◌+◌, ◌*◌, ◌/◌, ◌<◌, ◌≤◌, Bool, true, false, List, [], ◌∷◌, ◌++◌, length, Some, None}
 use Rattle.std.proofs.Common.{refl, sym, ap, subst, ◌∙◌, arith, length-append, append_assoc, take}
-use Rattle.std.specs.Prelude.{Option, Result, Ok, Err, OnOk, is_ok, IsTrue, min, replicate}
+use Rattle.std.specs.Prelude.{Option, Result, Ok, Err, OnOk, IfSome, is_ok, IsTrue, min, replicate}
 use Rattle.std.specs.Bool.{OnTrue, OnFalse}
 use Rattle.std.proofs.lemmas.Bool.{cases_lt}
 use Rattle.std.specs.List.{AllByRecursion}
 use Rattle.std.proofs.lemmas.List.{length-replicate, take_all}
 use Rattle.std.proofs.lemmas.List.Elements.{recursion_from_All}
-use Rattle.sector_disk.specs.Disk.{Image, sector, size, Shown, Disk, MayLeave, GoesOn, Steps, Extends, IsCounted, Keeps, SyncedMore, AllSynced, IsLonger, AreZeros}
+use Rattle.sector_disk.specs.Disk.{sector, size, Shown, MayLeave, GoesOn, Steps, Extends, IsCounted, Keeps, SyncedMore, AllSynced, IsLonger, AreZeros}
+use Rattle.sector_disk.specs.Pages.{IsOutside}
 use Rattle.sector_disk.specs.Unknown.{unknown_disk}
 use Rattle.sector_disk.specs.lemmas.Moments.{one_moment, steps_failed, extends_failed}
 use Rattle.sector_disk.specs.lemmas.Unknown.{unknown_goes_on, unknown_extends}
@@ -215,6 +216,19 @@ write_keeps old new at sectors writes others only = record {
   same_size = same_size old new sectors;
 }
 
+-- a write of a page keeps the sectors of the others
+pub page_keeps : (old new : Buffers) (page : ℕ) → new.sectors ≡ old.sectors
+    → WritesOnly old.waiting old.happened new.happened old.content new.content
+    → ((k : ℕ) → IsOutside page k → shown new.waiting new.content k ≡ shown old.waiting old.content k)
+    → ((k : ℕ) → IsOutside page k → Waits new.waiting k → Waits old.waiting k)
+    → Keeps (IsOutside page) (buffered_now old) (buffered_now new)
+page_keeps old new page sectors writes others only = record {
+  contents = λ k outside. shown_at old new k sectors (others k outside);
+  synced = λ k outside calm. still_calm old new sectors writes k (only k outside) calm;
+  lasting = same_lasting old new sectors writes;
+  same_size = same_size old new sectors;
+}
+
 -- a sync that is refused keeps all
 pub tried_keeps : (old new : Buffers) → new.sectors ≡ old.sectors
     → WritesOnly old.waiting old.happened new.happened old.content new.content
@@ -321,6 +335,9 @@ word honest b ends failed said = sym (honest_is honest b ends failed) ∙ said
 pub below : (honest : Bool) (b : Buffers) (ends : IsTrue honest → HasNoRoomBehind b) (failed at : ℕ) → at < size (buffered_disk honest b ends failed) → at < b.sectors
 below honest b ends failed at lt = omega (arith, lt, size_is honest b ends failed)
 
+pub within : (honest : Bool) (b : Buffers) (ends : IsTrue honest → HasNoRoomBehind b) (failed n : ℕ) → n ≤ size (buffered_disk honest b ends failed) → n ≤ b.sectors
+within honest b ends failed n le = omega (arith, le, size_is honest b ends failed)
+
 pub above : (honest : Bool) (b : Buffers) (ends : IsTrue honest → HasNoRoomBehind b) (failed n : ℕ) → size (buffered_disk honest b ends failed) < n → b.sectors < n
 above honest b ends failed n lt = omega (arith, lt, size_is honest b ends failed)
 
@@ -382,3 +399,8 @@ pub longer_or_same : (done : Bool) (old new to : ℕ) (lost : Bool) → old ≤ 
 longer_or_same true old new to lost le longer same = (omega (arith, longer, le), omega (arith, longer))
 longer_or_same false old new to lost le longer (inl same) = (omega (arith, same), omega (arith, same, le))
 longer_or_same false old new to lost le longer (inr most) = (omega (arith, most.0, le), omega (arith, most.0))
+
+-- what is said of what is there, if anything is
+pub some_so : {X : Type 0} {P Q : X → Type 0} (o : Option X) → ((x : X) → P x → Q x) → IfSome o P → IfSome o Q
+some_so (Some x) so is = so x is
+some_so None so is = tt

@@ -10,7 +10,7 @@ use Rattle.file_disk.specs.declared.waiting_writes.WaitingWrites.{WaitingWrites}
 use Rattle.file_disk.specs.Bytes.{bytes_at, KeepsUpTo}
 use Rattle.file_disk.specs.Events.{Happened, had_first, Adds, IsEventNoted, IsNotedOrNothing, EndsAtSector, Lengthens, LengthensOnly}
 use Rattle.file_disk.specs.Shown.{shown}
-use Rattle.file_disk.specs.Touched.{IsWriteOf, WritesWaiting, WritesOnly, WritesAndSyncs}
+use Rattle.file_disk.specs.Touched.{IsWriteOf, WritesOnly, WritesAndSyncs}
 use Rattle.file_disk.specs.WaitingSectors.{slot_of}
 use Rattle.file_disk.specs.lemmas.WaitingSectors.{ShowsSame}
 use Rattle.file_disk.proofs.Flushes.{part_long}

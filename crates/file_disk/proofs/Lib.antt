@@ -5,6 +5,7 @@ mod Flushes
 mod Events
 mod Failures
 mod Shown
+mod WholePages
 mod Lengths
 mod Unsealed
 mod Buffers

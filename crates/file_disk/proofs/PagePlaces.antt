@@ -10,11 +10,11 @@ use Rattle.file_disk.specs.lemmas.WaitingSectors.{AreDistinct, AreHinted, ArePla
 use Rattle.file_disk.proofs.Slots.{place_found, place_is, none_is, place_same, shown_same, slots_same, stands}
 
 -- the page at a place, once it is put there
-set_here : (pages : List WaitingPage) (place : ℕ) (page : WaitingPage) → place < length pages → page_at (slice_set pages place page) place ≡ page
+pub set_here : (pages : List WaitingPage) (place : ℕ) (page : WaitingPage) → place < length pages → page_at (slice_set pages place page) place ≡ page
 set_here pages place page lt = get_or-set_same pages place page no_page lt
 
 -- and the pages at all others
-set_else : (pages : List WaitingPage) (place q : ℕ) (page : WaitingPage) → q ≢ place → page_at (slice_set pages place page) q ≡ page_at pages q
+pub set_else : (pages : List WaitingPage) (place q : ℕ) (page : WaitingPage) → q ≢ place → page_at (slice_set pages place page) q ≡ page_at pages q
 set_else pages place q page ne = get_or-set_other pages place q page no_page ne
 
 -- a new page with no sector in it shows nothing
@@ -111,25 +111,25 @@ added_placed pages count page room below placed = λ p lt. elim (cases_eq p coun
 ]
 
 -- and are noted
-pub added_noted : (pages : List WaitingPage) (count hint : ℕ) (page : WaitingPage) (hints : List ℕ) → count < length pages
-    → hint ≡ page.number % 4096 → hint < length hints → AreHinted pages count hints
-    → AreHinted (slice_set pages count page) (count + 1) (slice_set hints hint (count + 1))
-added_noted pages count hint page hints room at within noted =
-    let here : get_or (slice_set hints hint (count + 1)) hint 0 ≡ count + 1 = get_or-set_same hints hint (count + 1) 0 within in
-    let some : (n : ℕ) → n % 4096 ≡ hint → get_or (slice_set hints hint (count + 1)) (n % 4096) 0 ≢ 0 =
-    λ n is none. absurd (omega (arith, here, ap (λ (k : ℕ). get_or (slice_set hints hint (count + 1)) k 0) is, none)) in
+pub added_noted : (pages : List WaitingPage) (count hint note : ℕ) (page : WaitingPage) (hints : List ℕ) → note ≢ 0 → count < length pages
+    → hint ≡ page.number % 16384 → hint < length hints → AreHinted pages count hints
+    → AreHinted (slice_set pages count page) (count + 1) (slice_set hints hint note)
+added_noted pages count hint note page hints told room at within noted =
+    let here : get_or (slice_set hints hint note) hint 0 ≡ note = get_or-set_same hints hint note 0 within in
+    let some : (n : ℕ) → n % 16384 ≡ hint → get_or (slice_set hints hint note) (n % 16384) 0 ≢ 0 =
+    λ n is none. told (sym here ∙ sym (ap (λ (k : ℕ). get_or (slice_set hints hint note) k 0) is) ∙ none) in
     λ p lt. elim (cases_eq p count) [
       | inl is ↦
           let new : (page_at (slice_set pages count page) p).number ≡ page.number =
           ap (λ (n : ℕ). (page_at (slice_set pages count page) n).number) is ∙ ap (λ (w : WaitingPage). w.number) (set_here pages count page room) in
-          some _ (ap (λ (n : ℕ). n % 4096) new ∙ sym at)
+          some _ (ap (λ (n : ℕ). n % 16384) new ∙ sym at)
       | inr ne ↦
           let old : (page_at (slice_set pages count page) p).number ≡ (page_at pages p).number = ap (λ (w : WaitingPage). w.number)
           (set_else pages count p page ne) in
-          elim (cases_eq ((page_at (slice_set pages count page) p).number % 4096) hint) [
+          elim (cases_eq ((page_at (slice_set pages count page) p).number % 16384) hint) [
             | inl is ↦ some _ is
             | inr other ↦ λ none. noted p (omega arith)
-                (ap (λ (n : ℕ). get_or hints (n % 4096) 0) (sym old) ∙ sym (get_or-set_other hints hint _ (count + 1) 0 other) ∙ none)
+                (ap (λ (n : ℕ). get_or hints (n % 16384) 0) (sym old) ∙ sym (get_or-set_other hints hint _ note 0 other) ∙ none)
           ]
     ]
 

@@ -1,7 +1,7 @@
 -- A sector is put into the place of its page.
-use Rattle.std.proofs.Common.{◌≡◌, ℕ, ◌+◌, ◌-◌, ◌≤◌, List, ◌++◌, length, sym, ap, ◌∙◌}
+use Rattle.std.proofs.Common.{◌≡◌, ℕ, ◌+◌, ◌-◌, ◌≤◌, List, ◌++◌, length, refl, sym, ap, subst, ◌∙◌}
 use Rattle.std.proofs.Common.{arith, take, drop, length-append, length-drop}
-use Rattle.std.proofs.lemmas.List.{take-take, drop-drop, drop-take, length-take, take_at}
+use Rattle.std.proofs.lemmas.List.{take-take, drop-drop, drop-take, length-take, length-take-le, take_at}
 use Rattle.std.proofs.lemmas.Slice.{take-put_mid_below, drop-put_mid, between-put_mid}
 use borrow.Rule.Slice.PartMut.{put_mid}
 use Rattle.file_disk.specs.Bytes.{bytes_at, LeavesOthers}
@@ -76,3 +76,32 @@ put_there old from at end is_end within =
   where
     count : length from ≡ end - at
     count = omega arith
+
+-- a part that is lent, and its length
+pub part_lent : (at n : ℕ) (lent old : List ℕ) → lent ≡ old → take (at + n - at) (drop at lent) ≡ bytes_at old at n
+part_lent at n lent old is = ap (λ (l : List ℕ). take (at + n - at) (drop at l)) is ∙ ap (λ (m : ℕ). take m (drop at old)) (omega arith)
+
+pub part_long : (old : List ℕ) (at n : ℕ) → at + n ≤ length old → length (bytes_at old at n) ≡ n
+part_long old at n within = length-take-le n (drop at old) (omega (arith, within, length-drop at old))
+
+-- a part of this length that was lent and changed
+module _ (at count len : ℕ) (old lent from : List ℕ) (is_lent : lent ≡ old) (is_len : len ≡ length old) (long : length from ≡ count)
+    (within : at + count ≤ length old) where
+  abbrev put : List ℕ
+  put = put_mid at (at + count - at) old from
+
+  end : at + count ≡ at + length from
+  end = omega (arith, long)
+
+  is : take len (put_mid at (at + count - at) lent from ++ drop (length (put_mid at (at + count - at) lent from)) old) ≡ put
+  is = put_in old lent from from at (at + count) len is_lent refl is_len end within
+
+  pub changed_part : bytes_at (take len (put_mid at (at + count - at) lent from ++ drop (length (put_mid at (at + count - at) lent from)) old)) at count ≡ from
+  changed_part =
+      ap (λ (b : List ℕ). bytes_at b at count) is ∙ ap (λ (n : ℕ). bytes_at put at n) (sym long) ∙ put_there old from at (at + count) end within
+
+  pub changed_others : LeavesOthers at count old
+      (take len (put_mid at (at + count - at) lent from ++ drop (length (put_mid at (at + count - at) lent from)) old))
+  changed_others =
+      subst (λ (b : List ℕ). LeavesOthers at count old b) (sym is)
+      (subst (λ (n : ℕ). LeavesOthers at n old put) long (put_over old from at (at + count) end within))

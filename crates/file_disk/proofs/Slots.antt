@@ -33,11 +33,11 @@ place_none pages (suc n) page none =
     rw not_here (place_none pages n page (λ p lt. none p (omega arith)))
 
 -- a page of whose remainder nothing is noted has no place
-pub not_noted : (pages : List WaitingPage) (count page hint : ℕ) (hints : List ℕ) → AreHinted pages count hints → hint ≡ page % 4096
+pub not_noted : (pages : List WaitingPage) (count page hint : ℕ) (hints : List ℕ) → AreHinted pages count hints → hint ≡ page % 16384
     → get_or hints hint 0 ≡ 0
     → place_of pages count page ≡ None
 not_noted pages count page hint hints noted at none =
-    place_none pages count page (λ p lt is. noted p lt (ap (λ (n : ℕ). get_or hints (n % 4096) 0) is ∙ ap (λ (n : ℕ). get_or hints n 0) (sym at) ∙ none))
+    place_none pages count page (λ p lt is. noted p lt (ap (λ (n : ℕ). get_or hints (n % 16384) 0) is ∙ ap (λ (n : ℕ). get_or hints n 0) (sym at) ∙ none))
 
 -- what is found is the place of the page
 pub place_is : (pages : List WaitingPage) (count page p : ℕ) → place_of pages count page ≡ Some p

@@ -1,3 +1,4 @@
 pub mod Narrow
 pub mod Search
 pub mod WaitingSectors
+pub mod WholePages

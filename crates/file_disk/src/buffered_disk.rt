@@ -6,7 +6,7 @@ ghost use Rattle.file_disk.specs.Buffered.{buffered_disk};
 use crate::buffered_file::BufferedFile;
 use crate::byte_file::ByteFile;
 use crate::refused::FileRefused;
-use sector_disk::{DiskFault, SectorDisk};
+use sector_disk::{DiskFault, PageEdit, SectorDisk};
 use std::alloc::Global;
 
 /// A disk over a file that nobody else writes, through the buffers of `BufferedFile`, with a count of what failed. No call takes memory.
@@ -83,9 +83,32 @@ impl<F: ByteFile + Drop> SectorDisk for BufferedDisk<F> {
         told(&mut self.failures, done)
     }
 
+    fn read_page(&mut self, page: u32, into: &mut [u8; 4096]) -> Result<(), DiskFault> {
+        let done = self.buffered.read_page(u64::from(page), into);
+        told(&mut self.failures, done)
+    }
+
     fn write(&mut self, at: u64, from: &[u8; 512]) -> Result<(), DiskFault> {
         let done = self.buffered.write(at, from);
         told_write(&mut self.failures, &mut self.failed_writes, done)
+    }
+
+    fn write_page(&mut self, page: u32, from: &[u8; 4096]) -> Result<(), DiskFault> {
+        let done = self.buffered.write_page(u64::from(page), from);
+        told_write(&mut self.failures, &mut self.failed_writes, done)
+    }
+
+    fn page_in_memory(&self, page: u32) -> Option<&[u8; 4096]> {
+        self.buffered.page_in_memory(u64::from(page))
+    }
+
+    fn edit_page<E: PageEdit>(&mut self, page: u32, edit: &E) -> bool {
+        let page = u64::from(page);
+        let Some((place, span)) = self.buffered.waiting.find_edit(page, edit) else {
+            return false;
+        };
+        self.buffered.edit_at(page, place, edit, span);
+        true
     }
 
     fn sync(&mut self) -> Result<(), DiskFault> {

@@ -4,7 +4,7 @@ ghost use Rattle.std.specs.Prelude.{◌≡◌, IfOk};
 use crate::buffered_disk::BufferedDisk;
 use crate::open_file::OpenFile;
 use crate::refused::FileRefused;
-use sector_disk::{DiskFault, SectorDisk};
+use sector_disk::{DiskFault, PageEdit, SectorDisk};
 use std::alloc::Global;
 use std::fs::File;
 
@@ -41,8 +41,24 @@ impl SectorDisk for FileDisk {
         self.disk.read(at, into)
     }
 
+    fn read_page(&mut self, page: u32, into: &mut [u8; 4096]) -> Result<(), DiskFault> {
+        self.disk.read_page(page, into)
+    }
+
     fn write(&mut self, at: u64, from: &[u8; 512]) -> Result<(), DiskFault> {
         self.disk.write(at, from)
+    }
+
+    fn write_page(&mut self, page: u32, from: &[u8; 4096]) -> Result<(), DiskFault> {
+        self.disk.write_page(page, from)
+    }
+
+    fn page_in_memory(&self, page: u32) -> Option<&[u8; 4096]> {
+        self.disk.page_in_memory(page)
+    }
+
+    fn edit_page<E: PageEdit>(&mut self, page: u32, edit: &E) -> bool {
+        self.disk.edit_page(page, edit)
     }
 
     fn sync(&mut self) -> Result<(), DiskFault> {

@@ -5,17 +5,20 @@
 mod buffered_disk;
 mod buffered_file;
 mod byte_file;
+mod edit_bytes;
 mod file;
 mod file_event;
 mod flush;
 mod memory_file;
 mod open_file;
+mod page_over;
 mod past;
 mod put_bytes;
 mod read_page;
 mod refused;
 mod waiting_page;
 mod waiting_writes;
+mod whole_page;
 
 pub use buffered_disk::BufferedDisk;
 pub use buffered_file::BufferedFile;

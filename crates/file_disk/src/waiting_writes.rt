@@ -1,8 +1,8 @@
 //! Sectors that were written and wait in memory.
-ghost use Rattle.std.specs.Prelude.{◌≡◌, ◌≢◌, ◌↔◌, ◌+◌, ◌*◌, ◌/◌, ◌%◌, ◌^◌, ◌<◌, ◌≤◌, ℕ, List, true, length, IfOk, IfSome, IfNone, None};
+ghost use Rattle.std.specs.Prelude.{◌≡◌, ◌≢◌, ◌+◌, ◌*◌, ◌/◌, ◌%◌, ◌^◌, ◌<◌, ◌≤◌, ℕ, List, true, length, IfOk, IfSome, IfNone, None};
 ghost use Rattle.std.specs.Bool.{OnTrue, OnFalse};
 ghost use Rattle.file_disk.specs.Bytes.{sector_of, LeavesOthers};
-ghost use Rattle.file_disk.specs.WaitingSectors.{page_at, place_of, slot_of, shown_of, HasWaitingPlace};
+ghost use Rattle.file_disk.specs.WaitingSectors.{page_at, place_of, slot_of, shown_of};
 ghost use Rattle.file_disk.specs.lemmas.WaitingSectors.{AreDistinct, ArePlaced, AreInside, AreHinted, IsRun};
 
 use crate::put_bytes::put_bytes;
@@ -10,7 +10,7 @@ use crate::waiting_page::{WaitingPage, is_whole, set_sector};
 use std::alloc::{AllocError, Global};
 
 /// For so many remainders of page numbers a place is noted.
-const HINTS: usize = 4_096;
+const HINTS: usize = 16_384;
 
 /// Puts a sector over the one at this slot.
 fn put_sector(bytes: &mut Vec<u8>, slot: usize, from: &[u8; 512])
@@ -29,22 +29,39 @@ pub struct WaitingWrites {
     pub count: usize,
     /// The bytes of all places, one after another.
     pub bytes: Vec<u8>,
-    /// For each remainder of a page number one more than the place that got such a page last, or 0 if none did. Whoever finds a place here
-    /// looks whether the page is there.
-    hints: Vec<usize>,
+    /// For each remainder of a page number what is noted of the place that got such a page last, or 0 if none did. Whoever finds a place
+    /// here looks whether the page is there.
+    hints: Vec<u16>,
     ghost few: { count ≤ length pages.items },
     ghost sized: { length bytes.items ≡ 4096 * length pages.items },
     ghost distinct: { AreDistinct pages.items count },
     ghost placed: { ArePlaced pages.items count },
-    ghost hinted: { length hints.items ≡ 4096 },
+    ghost hinted: { length hints.items ≡ 16384 },
     ghost noted: { AreHinted pages.items count hints.items },
 }
 
 /// Where the place of this page may be noted.
 fn hint_of(page: u64) -> usize
-    ensures { result ≡ page % 4096 }
+    ensures { result ≡ page % 16384 }
 {
     (page % HINTS as u64) as usize
+}
+
+/// What is noted of a place: one more than it, if a note can tell so much.
+fn note_of(place: usize) -> u16
+    ensures { result ≢ 0 }
+{
+    (place % 65_535) as u16 + 1
+}
+
+/// Nothing is noted of the places of these pages any more.
+fn forget_notes(hints: &mut Vec<u16>, pages: &[WaitingPage])
+    requires { length hints.old.items ≡ 16384 }
+    ensures { length hints.new.items ≡ 16384 }
+{
+    for page in pages {
+        hints[hint_of(page.number)] = 0;
+    }
 }
 
 impl WaitingWrites {
@@ -73,11 +90,14 @@ impl WaitingWrites {
     }
 
     /// The place of a page, if it has one: none where none is noted, and the noted one if the page is there.
-    fn place(&self, page: u64) -> Option<usize>
+    pub fn place(&self, page: u64) -> Option<usize>
         ensures is { result ≡ place_of self.now.pages.items self.now.count page }
         ensures there { IfSome result (λ p. (p < self.now.count) × ((page_at self.now.pages.items p).number ≡ page)) }
     {
-        let hint = self.hints[hint_of(page)];
+        if self.count == 0 {
+            return None;
+        }
+        let hint = usize::from(self.hints[hint_of(page)]);
         if hint == 0 {
             return None;
         }
@@ -120,7 +140,7 @@ impl WaitingWrites {
     }
 
     /// The place of a page, which gets the next one with no sector in it if it has none, while there is room.
-    fn place_for(&mut self, page: u64) -> Option<usize>
+    pub fn place_for(&mut self, page: u64) -> Option<usize>
         requires { 4096 * page < 2 ^ 64 }
         ensures placed { IfSome result (λ p. (p < self.new.count) × ((page_at self.new.pages.items p).number ≡ page)) }
         ensures same { (content : List ℕ) (k : ℕ) → shown_of self.new.pages.items self.new.count self.new.bytes.items content k
@@ -143,7 +163,7 @@ impl WaitingWrites {
             number: page,
             has: [false; 8],
         };
-        self.hints[hint_of(page)] = place + 1;
+        self.hints[hint_of(page)] = note_of(place);
         self.count = place + 1;
         Some(place)
     }
@@ -191,8 +211,9 @@ impl WaitingWrites {
         ensures none { self.new.count ≡ 0 }
         ensures room { length self.new.pages.items ≡ length self.old.pages.items }
     {
+        let count = self.count;
         self.count = 0;
-        self.hints.fill(0);
+        forget_notes(&mut self.hints, &self.pages[..count]);
     }
 
     /// The place of the first page from this number on.

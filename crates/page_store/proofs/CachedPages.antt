@@ -1,5 +1,5 @@
 -- Pages in a cache.
-use Rattle.std.proofs.Common.{◌≡◌, ◌≢◌, ◌⊎◌, inl, inr, ℕ, ◌+◌, ◌*◌, ◌≤◌, List, [], ◌∷◌, ◌++◌, length, Option, Some, None, Result, Ok, Err, OnOk, IsTrue, refl, sym, ◌∙◌, ap, subst, arith, ◌<◌, set, get_or, length-set, length-append}
+use Rattle.std.proofs.Common.{◌≡◌, ◌≢◌, ◌⊎◌, inl, inr, ℕ, ◌≤◌, List, [], ◌∷◌, ◌++◌, length, Option, Some, None, Result, Ok, Err, OnOk, IsTrue, refl, sym, ◌∙◌, ap, subst, arith, ◌<◌, set, get_or, length-set, length-append}
 use Rattle.std.proofs.lemmas.Bool.{cases_lt, cases_eq}
 use Rattle.std.proofs.lemmas.List.{get_or_past, get_or_default, get_or-set_other, get_or_append_left}
 use Rattle.std.proofs.lemmas.Grind.{get_or-set_at}
@@ -14,9 +14,10 @@ use Rattle.page_store.specs.declared.cache.PageCache.{PageCache}
 use Rattle.page_store.specs.Cache.{HoldsPage, HasPlace, OnlyForgets, IsCacheOf, IsEditedAt}
 use Rattle.page_store.specs.Places.{HoldsAt, IsPlaced, StandOnce, number_at, kept_at}
 use Rattle.page_store.specs.Marks.{mark, keeps, committed, left, AreCommitted, AreLeft, IsMarked, IsKept}
-use Rattle.page_store.specs.Page.{HasSectors, IsWithin, IsElsewhere, StaysElsewhere, eighth, page as page_at}
+use Rattle.sector_disk.specs.Pages.{HasSectors}
+use Rattle.page_store.specs.Page.{IsWithin, page as page_at}
 use Rattle.page_store.specs.Store.{Store, reads}
-use Rattle.page_store.proofs.PageSectors.{sectors_read, sectors_same, still_elsewhere}
+use Rattle.page_store.proofs.PageSectors.{sectors_read, sectors_same}
 
 -- a cache that holds no page is one of each store
 pub empty_cache : (store : Store) (cache : PageCache) → ((p : ℕ) (held : List ℕ) → HoldsPage cache p held → ⊥) → IsCacheOf store cache
@@ -166,16 +167,14 @@ module _ (numbers : Numbers) (kept : Kept) (place : ℕ) (bytes : List ℕ) (apa
       })
 
 -- a page is edited at its place
-pub edited_at : (Edits : List ℕ → List ℕ → Type 0) (from to : ℕ) (old new : PageCache) (page place : ℕ) (was it : List ℕ) → HasPlace old page place
+pub edited_at : (Edits : List ℕ → List ℕ → Type 0) (old new : PageCache) (page place : ℕ) (was it : List ℕ) → HasPlace old page place
     → StandOnce old.numbers.items old.kept.items → kept_at old.kept.items place ≡ was
     → new.numbers.items ≡ old.numbers.items → new.kept.items ≡ set old.kept.items place it → Edits was it
-    → StaysElsewhere from to was it → IsEditedAt Edits from to page place old new
-edited_at Edits from to old new page place was it placed apart stood numbers kept edits elsewhere = record {
-  was = was;
+    → IsEditedAt Edits page place was old new
+edited_at Edits old new page place was it placed apart stood numbers kept edits = record {
   held = record { place = place; placed = placed; holds = stood };
   within = omega (arith, placed.within, ap (λ (ks : Kept). length ks) kept, length-set old.kept.items place it);
   edits = subst (λ (bs : List ℕ). Edits was bs) (sym here) edits;
-  elsewhere = subst (λ (bs : List ℕ). StaysElsewhere from to was bs) (sym here) elsewhere;
   after = after;
 }
   where
@@ -250,18 +249,17 @@ added old new was cache page bytes of after honest marks kept same others = reco
 }
 
 -- a page of the cache was edited, and has these bytes now
-module _ (old : Store) (was cache : PageCache) (Edits : List ℕ → List ℕ → Type 0) (from to page place : ℕ) (bytes : List ℕ) (of : IsCacheOf old was)
-    (edited : IsEditedAt Edits from to page place was cache) (at : bytes ≡ kept_at cache.kept.items place) where
-  -- what was not edited of it is on the disk
-  pub edited_elsewhere : IsTrue old.disk.honest → (k : ℕ) → IsElsewhere from to k → sector old.disk.now.contents (8 * page + k) ≡ eighth k bytes
-  edited_elsewhere honest = still_elsewhere old.disk.now.contents page from to edited.was bytes (of.same page edited.was edited.held honest)
-      (subst (λ (bs : List ℕ). StaysElsewhere from to edited.was bs) (sym at) edited.elsewhere)
+module _ (old : Store) (was cache : PageCache) (Edits : List ℕ → List ℕ → Type 0) (page place : ℕ) (it bytes : List ℕ) (of : IsCacheOf old was)
+    (edited : IsEditedAt Edits page place it was cache) (at : bytes ≡ kept_at cache.kept.items place) where
+  -- what it was is on the disk
+  pub edited_was : IsTrue old.disk.honest → HasSectors old.disk.now.contents page it
+  edited_was honest = of.same page it edited.held honest
 
   -- once all is on the disk it reads as it was edited
   pub edited_reads : (new : Image) → IsTrue old.disk.honest → HasSectors new page bytes → Edits (reads old page) (page_at new page)
   edited_reads new honest has =
-      subst (λ (bs : List ℕ). Edits bs (page_at new page)) (held_reads old was of page edited.was edited.held honest)
-      (subst (λ (bs : List ℕ). Edits edited.was bs) (sym at ∙ sectors_read new page bytes has) edited.edits)
+      subst (λ (bs : List ℕ). Edits bs (page_at new page)) (held_reads old was of page it edited.held honest)
+      (subst (λ (bs : List ℕ). Edits it bs) (sym at ∙ sectors_read new page bytes has) edited.edits)
 
   -- what the cache holds
   pub edited_after : (p : ℕ) (held : List ℕ) → HoldsPage cache p held → ((p ≡ page) × (held ≡ bytes)) ⊎ ((p ≢ page) × HoldsPage was p held)

@@ -2,7 +2,7 @@
 use Rattle.std.proofs.Common.{ℕ, ◌≤◌, refl}
 use Rattle.sector_disk.specs.Disk.{Disk}
 use Rattle.page_store.specs.Store.{Store, store_of, StoreWorks, IsUnchanged}
-use Rattle.page_store.specs.lemmas.Disk.{IsDiskRead}
+use Rattle.sector_disk.specs.Pages.{IsDiskRead}
 use Rattle.page_store.proofs.Soundness.{works_read}
 
 -- it is as it was but for the disk

@@ -15,7 +15,8 @@ use Rattle.page_store.specs.declared.holds.Holders.{Holders}
 use Rattle.page_store.specs.Holds.{Holds, any, holders_at}
 use Rattle.page_store.specs.Marks.{mark, needs, is_past, stays, IsNeeded, turned, committed, let_go, AreDiscarded, AreCommitted, IsMarked}
 use Rattle.page_store.specs.Page.{page, IsWithin}
-use Rattle.page_store.specs.lemmas.Page.{IsOutside, page_same}
+use Rattle.page_store.specs.lemmas.Page.{page_same}
+use Rattle.sector_disk.specs.Pages.{IsOutside}
 use Rattle.page_store.specs.Store.{Store, Saved, SavedAs, IsHeldBy, IsSafe, AreSoundHolds, IsSoundStore, StoreWorks, StoreCloses, SameHeader, IsUnchanged, IsRemarked}
 use Rattle.page_store.specs.lemmas.Holds.{need_any}
 use Rattle.page_store.specs.lemmas.Works.{safe_saves, safe_remarked, closes_same}

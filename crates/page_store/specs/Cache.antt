@@ -3,7 +3,7 @@ use Rattle.std.specs.Prelude.{◌≡◌, ◌≢◌, ◌⊎◌, ℕ, ◌<◌, Lis
 use Rattle.page_store.specs.declared.cache.PageCache.{PageCache}
 use Rattle.page_store.specs.Marks.{IsKept}
 use Rattle.page_store.specs.Places.{IsPlaced, HoldsAt, kept_at}
-use Rattle.page_store.specs.Page.{HasSectors, StaysElsewhere}
+use Rattle.sector_disk.specs.Pages.{HasSectors}
 use Rattle.page_store.specs.Store.{Store}
 
 -- the place of a page in the cache
@@ -18,14 +18,12 @@ HoldsPage cache = HoldsAt cache.numbers.items cache.kept.items
 abbrev pub OnlyForgets : PageCache → PageCache → Type 0
 OnlyForgets old new = (p : ℕ) (bytes : List ℕ) → HoldsPage new p bytes → HoldsPage old p bytes
 
--- the page, which the cache holds at this place, was edited there: other bytes, by the edit, and the same elsewhere; all else in the
+-- the page, which the cache holds at this place, where it had these bytes, was edited there: other bytes, by the edit; all else in the
 -- cache was there
-pub record IsEditedAt (Edits : List ℕ → List ℕ → Type 0) (from to page place : ℕ) (old new : PageCache) : Type 0 where
-  pub was : List ℕ
+pub record IsEditedAt (Edits : List ℕ → List ℕ → Type 0) (page place : ℕ) (was : List ℕ) (old new : PageCache) : Type 0 where
   pub held : HoldsPage old page was
   pub within : place < length new.kept.items
   pub edits : Edits was (kept_at new.kept.items place)
-  pub elsewhere : StaysElsewhere from to was (kept_at new.kept.items place)
   pub after : (p : ℕ) (bytes : List ℕ) → HoldsPage new p bytes
       → ((p ≡ page) × (bytes ≡ (kept_at new.kept.items place))) ⊎ ((p ≢ page) × HoldsPage old p bytes)
 

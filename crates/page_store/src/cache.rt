@@ -1,14 +1,14 @@
 //! Pages in memory, so that they need not be read again.
-ghost use Rattle.std.specs.Prelude.{◌≡◌, ◌≢◌, ◌⊎◌, ◌≤◌, ◌<◌, ℕ, List, IsTrue, IfOk, IfSome, IfNone, false, length};
-ghost use Rattle.page_store.specs.Places.{StandOnce, kept_at};
+ghost use Rattle.std.specs.Prelude.{◌≡◌, ◌≢◌, ◌⊎◌, ◌≤◌, ◌<◌, ◌%◌, ℕ, List, IsTrue, IfOk, IfSome, IfNone, false, length};
+ghost use Rattle.page_store.specs.Places.{StandOnce, StandWhereNoted, kept_at};
 
-use crate::edit::{PageEdit, Span};
 use lru::LruCache;
+use sector_disk::PageEdit;
 use std::alloc::{AllocError, Global};
 use std::num::NonZeroUsize;
 
-/// For so many remainders of page numbers a place is remembered.
-const HINTS: usize = 256;
+/// For so many remainders of page numbers a place is noted.
+const HINTS: usize = 4_096;
 
 /// The pages that were read or written last. It holds this many at most, and where there is no place none.
 #[derive(Drop)]
@@ -21,16 +21,18 @@ pub struct PageCache {
     marked: Vec<bool>,
     /// The bytes of the pages.
     kept: Vec<[u8; 4096]>,
-    /// Where a page may stand, by its number's remainder.
-    hints: [u8; HINTS],
-    /// The place that was used last.
-    last: usize,
+    /// For each remainder of a page number one more than the place that got such a page last, or 0 if none did. Of pages with one remainder
+    /// one stands here at most, and at that place.
+    hints: Vec<u8>,
     ghost apart: { StandOnce numbers.items kept.items },
+    ghost few: { length numbers.items ≤ 64 },
+    ghost hinted: { length hints.items ≡ 4096 },
+    ghost noted: { StandWhereNoted numbers.items kept.items hints.items },
 }
 
-/// Where the place of this page is remembered.
+/// Where the place of this page is noted.
 fn hint_of(page: u32) -> usize
-    ensures { result < 256 }
+    ensures { result ≡ page % 4096 }
 {
     page as usize % HINTS
 }
@@ -40,6 +42,7 @@ impl PageCache {
 
     /// An empty cache for this many pages.
     pub fn new(alloc: Global, pages: usize) -> Result<PageCache, AllocError>
+        requires { pages ≤ 64 }
         ensures { IfOk result (λ cache. (p : ℕ) (bytes : List ℕ) → HoldsPage cache p bytes → ⊥) }
     {
         let order = match NonZeroUsize::new(pages) {
@@ -51,8 +54,7 @@ impl PageCache {
             order,
             marked: vec![in alloc; false; pages]?,
             kept: Vec::new(alloc),
-            hints: [0; HINTS],
-            last: 0,
+            hints: vec![in alloc; 0; HINTS]?,
         })
     }
 
@@ -64,53 +66,30 @@ impl PageCache {
         place < self.numbers.len() && place < self.kept.len() && self.numbers[place] == Some(page)
     }
 
-    /// Where the page is, if it is there and was used last.
-    fn place_of_last(&self, page: u32) -> Option<usize>
-        ensures { IfSome result (HasPlace self.now page) }
+    /// Where the page is, if it is there: at the noted place, or nowhere.
+    fn place_of(&self, page: u32) -> Option<usize>
+        ensures there { IfSome result (HasPlace self.now page) }
+        ensures none { IfNone result ((place : ℕ) → HasPlace self.now page place → ⊥) }
     {
-        if self.stands_at(page, self.last) {
-            Some(self.last)
+        let hint = usize::from(self.hints[hint_of(page)]);
+        if hint == 0 {
+            return None;
+        }
+        if self.stands_at(page, hint - 1) {
+            Some(hint - 1)
         } else {
             None
         }
     }
 
-    /// Where the page is, if it is there.
-    fn place_of(&self, page: u32) -> Option<usize>
-        ensures there { IfSome result (HasPlace self.now page) }
-        ensures none { IfNone result ((place : ℕ) → HasPlace self.now page place → ⊥) }
-    {
-        let place = usize::from(self.hints[hint_of(page)]);
-        if self.stands_at(page, place) {
-            Some(place)
-        } else {
-            self.place_of_any(page)
-        }
-    }
-
-    /// Where the page is, if it is there, looked for at all places.
-    fn place_of_any(&self, page: u32) -> Option<usize>
-        ensures there { IfSome result (HasPlace self.now page) }
-        ensures none { IfNone result ((place : ℕ) → HasPlace self.now page place → ⊥) }
-    {
-        for place in 0..self.numbers.len() {
-            if self.stands_at(page, place) {
-                return Some(place);
-            }
-        }
-        None
-    }
-
-    /// The page of this place counts as used, and its place is remembered.
-    fn use_place(&mut self, page: u32, place: usize)
+    /// The page of this place counts as used.
+    fn use_place(&mut self, place: usize)
         ensures numbers { self.new.numbers.items ≡ self.old.numbers.items }
         ensures kept { self.new.kept.items ≡ self.old.kept.items }
     {
         if place < self.marked.len() {
             self.marked[place] = true;
         }
-        self.hints[hint_of(page)] = (place % HINTS) as u8;
-        self.last = place;
     }
 
     /// Copies the page, if it is there.
@@ -122,7 +101,7 @@ impl PageCache {
             return false;
         };
         *into = self.kept[place];
-        self.use_place(page, place);
+        self.use_place(place);
         true
     }
 
@@ -133,7 +112,7 @@ impl PageCache {
         let Some(place) = self.place_of(page) else {
             return false;
         };
-        self.use_place(page, place);
+        self.use_place(place);
         true
     }
 
@@ -147,18 +126,22 @@ impl PageCache {
         }
     }
 
-    /// Edits the page where it stands, if it was used last and is one that the edit is for. Answers where, and in which bytes.
-    pub fn edit<E: PageEdit>(&mut self, page: u32, edit: &E) -> Option<(usize, Span)>
-        ensures edited { IfSome result (λ done. IsEditedAt (E.edits edit.now) done.1.from done.1.to page done.0 self.old self.new) }
+    /// Edits the page where it stands, if it is there and one that the edit is for, and then counts as used. Answers where, and fills
+    /// the buffer with what it was.
+    pub fn edit<E: PageEdit>(&mut self, page: u32, edit: &E, was: &mut [u8; 4096]) -> Option<usize>
+        ensures edited { IfSome result (λ place. IsEditedAt (E.edits edit.now) page place was.new self.old self.new) }
         ensures same { IfNone result (OnlyForgets self.old self.new) }
     {
-        let Some(place) = self.place_of_last(page) else {
+        let Some(place) = self.place_of(page) else {
             return None;
         };
-        match edit.apply(&mut self.kept[place]) {
-            Some(span) => Some((place, span)),
-            None => None,
-        }
+        let Some(span) = edit.find(&self.kept[place]) else {
+            return None;
+        };
+        *was = self.kept[place];
+        edit.apply(&mut self.kept[place], span);
+        self.use_place(place);
+        Some(place)
     }
 
     /// The bytes at a place.
@@ -235,6 +218,26 @@ impl PageCache {
         }
     }
 
+    /// Drops the page of this one's remainder, if one is there.
+    fn make_way(&mut self, page: u32)
+        ensures apart { (p place : ℕ) → HasPlace self.new p place → HasPlace self.old p place × (p % 4096 ≢ page % 4096) }
+        ensures held { OnlyForgets self.old self.new }
+    {
+        let hint = usize::from(self.hints[hint_of(page)]);
+        if hint == 0 {
+            return;
+        }
+        if hint > self.numbers.len() {
+            return;
+        }
+        if let Some(other) = self.numbers[hint - 1]
+            && hint_of(other) == hint_of(page)
+        {
+            self.demote(hint - 1);
+            self.numbers[hint - 1] = None;
+        }
+    }
+
     /// Keeps the page with these bytes, in the place of what was there. Where memory is refused the page is left out.
     pub fn put(&mut self, page: u32, bytes: &[u8; 4096]) -> Result<(), AllocError>
         ensures { (p : ℕ) (held : List ℕ) → HoldsPage self.new p held
@@ -242,13 +245,15 @@ impl PageCache {
     {
         if let Some(place) = self.place_of(page) {
             self.kept[place] = *bytes;
-            self.use_place(page, place);
+            self.use_place(place);
             return Ok(());
         }
+        self.make_way(page);
         if let Some(place) = self.make_place()? {
+            self.use_place(place);
+            self.hints[hint_of(page)] = place as u8 + 1;
             self.numbers[place] = Some(page);
             self.kept[place] = *bytes;
-            self.use_place(page, place);
         }
         Ok(())
     }
@@ -276,6 +281,18 @@ impl PageCache {
         };
         self.demote(place);
         self.numbers[place] = None;
+    }
+
+    /// Keeps the page with these bytes, or drops it.
+    pub fn keep(&mut self, page: u32, bytes: &[u8; 4096], here: bool) -> Result<(), AllocError>
+        ensures { (p : ℕ) (held : List ℕ) → HoldsPage self.new p held
+            → ((p ≡ page) × (held ≡ bytes.now)) ⊎ ((p ≢ page) × HoldsPage self.old p held) }
+    {
+        if here {
+            return self.put(page, bytes);
+        }
+        self.forget(page);
+        Ok(())
     }
 
     /// Drops all pages.

@@ -3,7 +3,7 @@
 
 mod blocks;
 mod cache;
-mod edit;
+mod edits;
 mod fault;
 mod holds;
 pub mod laws;
@@ -15,7 +15,6 @@ mod room;
 mod search;
 mod store;
 
-pub use edit::{PageEdit, Span};
 pub use fault::PageFault;
 pub use holds::{Hold, HoldPlace, Holders};
 pub use limits::{MAX_PAGES, MIN_PAGES};

@@ -11,8 +11,9 @@ ghost use Rattle.page_store.specs.Store.{IsCommitted, IsShortened, StoreGrows, I
 ghost use Rattle.page_store.specs.Holds.{needed_by};
 ghost use Rattle.page_store.specs.declared.holds.HoldPlace.{HoldPlace};
 
-use crate::{Hold, PageEdit, PageFault};
+use crate::{Hold, PageFault};
 use root_pair::Root;
+use sector_disk::PageEdit;
 use std::alloc::Global;
 
 /// Pages of 4,096 bytes, numbered from 0. Page 0 is the system page and never handed out. While opening, each page that
@@ -104,7 +105,8 @@ pub trait Pages {
         ensures works { StoreWorks (store self.old) (store self.new) };
 
     /// Edits a page that was handed out since the last commit where it stands in memory, and writes what changed. It answers
-    /// whether it did: not where the page was not the last one used, or is not one that the edit is for; then all is as it was.
+    /// whether it did: not where the page does not stand in memory so that it can be edited there, or is not one that the edit is for; then
+    /// all is as it was.
     fn edit_page<E: PageEdit>(&mut self, page: u32, edit: &E) -> Result<bool, PageFault>
         requires { mark_of (store self.old).marks page ≡ Fresh }
         ensures edited { IsTrue (store self.old).disk.honest

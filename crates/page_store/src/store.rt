@@ -10,19 +10,17 @@ ghost use Rattle.page_store.specs.Store.{store_of, IsSoundStore, IsOpened, IsRef
 
 use crate::blocks::{all_noted, blocks_of, put_mark, turn, turn_committed};
 use crate::cache::PageCache;
-use crate::edit::{PageEdit, Span};
 use crate::holds::{Hold, Holders};
 use crate::limits::MAX_PAGES;
 use crate::marks::{
     count_free, end_hold, first_unused, free_left, grown_holders, grown_marks, is_kept, let_go,
     take_hold,
 };
-use crate::page::{get_page, put_page};
 use crate::room::make_room;
 use crate::search::Search;
 use crate::{Mark, PageFault, Pages};
 use root_pair::{Root, RootFault, publish};
-use sector_disk::SectorDisk;
+use sector_disk::{PageEdit, SectorDisk};
 use std::alloc::{AllocError, Global};
 
 /// The most pages that a cache holds.
@@ -31,7 +29,7 @@ pub const MOST_CACHED: usize = 64;
 /// A store of pages on a disk.
 #[derive(Drop)]
 pub struct PageStore<D: SectorDisk> {
-    disk: D,
+    pub(crate) disk: D,
     root: Root,
     marks: Vec<Mark>,
     /// In which blocks of pages something may be going on.
@@ -45,9 +43,9 @@ pub struct PageStore<D: SectorDisk> {
     /// Where a free page is looked for.
     search: Search,
     /// A write or a sync has failed.
-    closed: bool,
+    pub(crate) closed: bool,
     /// Pages that need not be read again.
-    cache: PageCache,
+    pub(crate) cache: PageCache,
     ghost sound: { IsSoundStore (store_of (D.disk disk) (D.failures disk) root.bytes marks.items closed (holds_of taken holders.items)) },
     ghost blocks: { AreBlocksNoted marks.items noted.items },
     ghost unused: { AreFreeFrom high marks.items },
@@ -200,10 +198,14 @@ impl<D: SectorDisk> Pages for PageStore<D> {
         if page == 0 || page as usize >= self.marks.len() {
             return Err(PageFault::Damaged);
         }
+        if let Some(bytes) = self.disk.page_in_memory(page) {
+            *into = *bytes;
+            return Ok(());
+        }
         if self.cache.give(page, into) {
             return Ok(());
         }
-        get_page(&mut self.disk, page, into)?;
+        self.disk.read_page(page, into)?;
         if is_kept(self.marks[page as usize]) {
             let _no_memory = self.cache.put(page, into);
         }
@@ -211,14 +213,20 @@ impl<D: SectorDisk> Pages for PageStore<D> {
     }
 
     fn touch(&mut self, page: u32) -> bool {
-        self.cache.touch(page)
+        self.disk.page_in_memory(page).is_some() || self.cache.touch(page)
     }
 
     fn bytes_of(&self, page: u32) -> Option<&[u8; 4096]> {
         if self.closed {
             return None;
         }
-        self.cache.bytes_of(page)
+        if page == 0 || page as usize >= self.marks.len() {
+            return None;
+        }
+        match self.disk.page_in_memory(page) {
+            Some(bytes) => Some(bytes),
+            None => self.cache.bytes_of(page),
+        }
     }
 
     fn new_page(&mut self) -> Result<u32, PageFault> {
@@ -242,11 +250,12 @@ impl<D: SectorDisk> Pages for PageStore<D> {
         if self.closed {
             return Err(PageFault::Closed);
         }
-        let written = put_page(&mut self.disk, page, from, Span::whole());
+        let written = self.disk.write_page(page, from);
         self.closed = written.is_err();
         match written {
             Ok(done) => {
-                let _no_memory = self.cache.put(page, from);
+                let waits = self.disk.page_in_memory(page).is_some();
+                let _no_memory = self.cache.keep(page, from, !waits);
                 Ok(done)
             }
             Err(fault) => {
@@ -260,18 +269,10 @@ impl<D: SectorDisk> Pages for PageStore<D> {
         if self.closed {
             return Err(PageFault::Closed);
         }
-        let Some((place, span)) = self.cache.edit(page, edit) else {
-            return Ok(false);
-        };
-        let done = put_page(&mut self.disk, page, self.cache.bytes_at(place), span);
-        self.closed = done.is_err();
-        match done {
-            Ok(()) => Ok(true),
-            Err(fault) => {
-                self.cache.forget(page);
-                Err(fault.into())
-            }
+        if self.edit_waiting(page, edit) {
+            return Ok(true);
         }
+        self.edit_cached(page, edit)
     }
 
     fn release(&mut self, page: u32) {

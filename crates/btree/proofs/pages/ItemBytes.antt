@@ -12,13 +12,11 @@ use Rattle.std.proofs.lemmas.Cmp.{nat_list_cmp_total, tied_itself}
 use Rattle.btree.specs.declared.page.kind.Kind.{Kind}
 use Rattle.btree.specs.declared.page.kind.Kind.TheVariants.{Leaf, Inner}
 use Rattle.btree.specs.declared.page.widths.Widths.{Widths}
-use Rattle.page_store.specs.Page.{StaysElsewhere}
 use Rattle.btree.specs.lemmas.Items.{items-append, items-front}
 use Rattle.btree.specs.Page.{Item, item_width, items_of, key_cmp}
 use Rattle.btree.specs.Place.{IsPlace}
 use Rattle.btree.specs.lemmas.Found.{place_past, split_got}
 use Rattle.btree.specs.Entries.{Ascend, put_entry}
-use Rattle.btree.proofs.puts.Elsewhere.{stays_elsewhere}
 use Rattle.btree.specs.lemmas.Order.{Below, Past, all_both, ascend_seam, below_upto, put_below, put_first, same_key}
 
 -- products
@@ -284,19 +282,6 @@ module _ (key behind b from to count n all : ℕ) (page moved written middle new
       ((are_bytes ∙ in_place page moved new middle start end old_start old_end (omega arith) refl enough moved_is written_is) k))
       ∙ items-front key behind (from + n + (all - to)) third (drop (end + (old_end - old_start)) page) all_long
       ∙ spliced_listed key behind b from to count page is long order within fits [] first refl refl n middle (first ++ middle) whole refl all are third refl
-
-  -- the page is as it was elsewhere
-  pub page_elsewhere : (final : List ℕ) → drop 4 final ≡ drop 4 new → StaysElsewhere start (end + (old_end - old_start)) page final
-  page_elsewhere final same_items =
-      let first = take (start - 4) (drop 4 page) in
-      let back = take (old_end - old_start) (drop old_start page) in
-      let all_is : all * (key + b) ≡ count * (key + behind) = λ k. are k * (key + is k) in
-      let back_long : length back ≡ old_end - old_start = omega
-      (arith, length-take (old_end - old_start) (drop old_start page), length-drop old_start page, all_is, fits, long) in
-      stays_elsewhere page final (middle ++ back) start (end + (old_end - old_start)) (omega arith) (omega arith) enough
-      (length-append middle back ∙ omega (arith, back_long))
-      (same_items ∙ in_place page moved new middle start end old_start old_end (omega arith) refl enough moved_is written_is
-      ∙ ap (λ (xs : List ℕ). xs ++ drop (end + (old_end - old_start)) page) (append_assoc first middle back))
 
 -- an entry in a leaf
 

@@ -9,7 +9,7 @@ use Rattle.page_store.specs.declared.marks.Mark.TheVariants.{Fresh}
 use Rattle.page_store.specs.declared.fault.PageFault.{PageFault}
 use Rattle.page_store.specs.declared.fault.PageFault.TheVariants.{Disk}
 use Rattle.page_store.specs.Causes.{PageWriteCause}
-use Rattle.page_store.specs.Frames.{PagesWritten, PagesRefused}
+use Rattle.page_store.specs.Frames.{PagesRefused}
 use Rattle.page_store.specs.Marks.{mark}
 use Rattle.page_store.specs.Pages.{IsOnce}
 use Rattle.page_store.specs.Store.{Store, reads, StoreWorks}
@@ -194,12 +194,3 @@ pub edit_refused : {X : Type 0} {old new : Store} (r : Result X PageFault) → S
 edit_refused (Ok x) works marks untouched cause = tt
 edit_refused {old = old} (Err fault) works marks untouched cause =
     refused_after 0 (works_refl old) refl (omega arith) (omega arith) (not_written works marks untouched cause)
-
--- nothing was done there before
-pub in_place_since : {old mid : Store} (new : Store) (r : Result Bool PageFault) → mid ≡ old → IfErr r (PagesRefused Disk WriteCause 0 mid new)
-    → IfErr r (PagesRefused Disk WriteCause 0 old new)
-in_place_since new r same refused = subst (λ (s : Store). IfErr r (PagesRefused Disk WriteCause 0 s new)) same refused
-
-pub in_place_written : {old mid : Store} (new : Store) (r : Result Bool PageFault) → mid ≡ old → IfOk r (λ done. IsTrue done → PagesWritten 0 mid new)
-    → IfOk r (λ done. IsTrue done → PagesWritten 0 old new)
-in_place_written new r same written = subst (λ (s : Store). IfOk r (λ done. IsTrue done → PagesWritten 0 s new)) same written

@@ -3,11 +3,11 @@ ghost use Rattle.std.specs.Prelude.{◌≡◌, ◌≤◌, ◌+◌, ◌-◌, ◌*
 ghost use Rattle.btree.specs.declared.page.kind.Kind.TheVariants.{Leaf};
 ghost use Rattle.btree.specs.declared.page.kind.TheConstants.{ROOM};
 ghost use Rattle.btree.specs.Page.{count_in, item_width, IsPage};
-ghost use Rattle.btree.specs.lemmas.EntryPut.{IsEntryPut};
+ghost use Rattle.btree.specs.lemmas.EntryPut.{IsEntryPlace, IsEntryPut};
 
 use crate::page::{Kind, ROOM, Widths, count_of, kind_of};
 use crate::put::items::{new_entry, places_of, splice_in};
-use page_store::{PageEdit, Span};
+use sector_disk::{PageEdit, Span};
 
 /// This value is put at this key, on a leaf that has room for it and an entry before it.
 #[derive(Drop)]
@@ -40,9 +40,11 @@ fn is_kept(only_new: bool, from: usize, to: usize) -> bool
 }
 
 impl PageEdit for EntryPut<'_> {
+    ghost fits = { λ put span was. IsEntryPlace put.widths put.key.now put.only_new span.from span.to was };
+
     ghost edits = { λ put was is. IsEntryPut put.widths put.key.now put.value.now put.only_new was is };
 
-    fn apply(&self, page: &mut [u8; 4096]) -> Option<Span> {
+    fn find(&self, page: &[u8; 4096]) -> Option<Span> {
         let Some(Kind::Leaf) = kind_of(self.widths, page) else {
             return None;
         };
@@ -53,8 +55,19 @@ impl PageEdit for EntryPut<'_> {
         if is_kept(self.only_new, from, to) {
             return None;
         }
+        Some(Span { from, to })
+    }
+
+    fn apply(&self, page: &mut [u8; 4096], span: Span) {
         let entry = new_entry(self.widths, self.key, self.value);
-        let span = splice_in(self.widths, Kind::Leaf, page, from, to, 1, &entry.bytes);
-        Some(span)
+        splice_in(
+            self.widths,
+            Kind::Leaf,
+            page,
+            span.from,
+            span.to,
+            1,
+            &entry.bytes,
+        );
     }
 }

@@ -49,16 +49,12 @@ fn spot_in(widths: Widths, bytes: &[u8; 4096], key: &[u8]) -> Option<Spot>
 }
 
 /// What the page is to the key, if it is in memory.
-fn spot_at<P: Pages>(store: &mut P, widths: Widths, page: u32, key: &[u8]) -> Option<Spot>
-    ensures seen { IsTrue (P.store store.old).disk.honest
-        → IfSome result (λ spot. IsSpot widths (reads (P.store store.old) page) key.now spot) }
+fn spot_at<P: Pages>(store: &P, widths: Widths, page: u32, key: &[u8]) -> Option<Spot>
+    ensures seen { IsTrue (P.store store.now).disk.honest
+        → IfSome result (λ spot. IsSpot widths (reads (P.store store.now) page) key.now spot) }
     ensures is_page { OnSome result (1 ≤ page) }
-    ensures there { OnSome result (page < length (P.store store.old).marks) }
-    ensures same { P.store store.new ≡ P.store store.old }
+    ensures there { OnSome result (page < length (P.store store.now).marks) }
 {
-    if !store.touch(page) {
-        return None;
-    }
     match store.bytes_of(page) {
         Some(bytes) => spot_in(widths, bytes, key),
         None => None,

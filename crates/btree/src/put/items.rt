@@ -4,7 +4,6 @@ ghost use Rattle.std.specs.Prelude.{length, take, drop, slice_get, None, Some, I
 ghost use Rattle.std.specs.List.{copy_within};
 ghost use Rattle.arrayvec.specs.ArrayVec.{array_vec_len};
 ghost use Rattle.byteorder.specs.Endian.{big_bytes};
-ghost use Rattle.page_store.specs.Page.{StaysElsewhere};
 ghost use Rattle.btree.specs.declared.page.kind.Kind.TheVariants.{Leaf, Inner};
 ghost use Rattle.btree.specs.Page.{Item, behind_of, child_of, count_in, item_width, items_in, items_of, least_of, IsPage};
 ghost use Rattle.btree.specs.Entries.{Ascend, find_entry, put_entry};
@@ -14,7 +13,6 @@ ghost use Rattle.btree.specs.declared.page.kind.TheConstants.{ROOM};
 use crate::page::{HEAD, Kind, Widths, behind_of, count_of, item_at, place_of, set_count};
 use arrayvec::ArrayVec;
 use byteorder::{BigEndian, ByteOrder};
-use page_store::Span;
 
 /// As many bytes as a page has room for, and two items more.
 const MOST: usize = 5_120;
@@ -161,8 +159,7 @@ fn move_by_copy(page: &mut [u8; 4096], start: usize, end: usize, to: usize)
     page[to..to + (end - start)].copy_from_slice(&was[start..end]);
 }
 
-/// Splices items in on the page itself, where it has room. Answers which bytes it writes, but for the count. What stands after its items is
-/// moved along or stays.
+/// Splices items in on the page itself, where it has room. What stands after its items is moved along or stays.
 pub fn splice_in(
     widths: Widths,
     kind: Kind,
@@ -171,7 +168,7 @@ pub fn splice_in(
     to: usize,
     count: usize,
     bytes: &[u8],
-) -> Span
+)
     requires page { IsPage widths kind page.old }
     requires order { from ≤ to }
     requires within { to ≤ count_in page.old }
@@ -183,7 +180,6 @@ pub fn splice_in(
     ensures items { items_in widths kind page.new
         ≡ take from (items_in widths kind page.old)
         ++ (items_of widths.key (behind_of widths kind) count bytes.now ++ drop to (items_in widths kind page.old)) }
-    ensures elsewhere { StaysElsewhere result.from result.to page.old page.new }
 {
     let width = widths.key + behind_of(widths, kind);
     let all = count_of(page);
@@ -194,10 +190,6 @@ pub fn splice_in(
     move_within(page, rest, last, end);
     page[start..end].copy_from_slice(bytes);
     set_count(page, from + count + (all - to));
-    Span {
-        from: start,
-        to: end + (last - rest),
-    }
 }
 
 /// This key with this value.

@@ -118,7 +118,7 @@ pub fn write_spliced<P: Pages>(
         return write_split(store, widths, kind, page, bytes, from, to, items);
     }
     let first = renewed(store, page)?;
-    let _span = splice_in(widths, kind, bytes, from, to, items.count, &items.bytes);
+    splice_in(widths, kind, bytes, from, to, items.count, &items.bytes);
     store.write_page(first, bytes)?;
     let mut tops = no_few_items();
     lead_to(widths, &mut tops, &bytes[HEAD..HEAD + widths.key], first);

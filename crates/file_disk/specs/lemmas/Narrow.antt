@@ -1,10 +1,10 @@
 -- What a stop leaves of a file a stop may leave of its buffers.
-use Rattle.std.specs.Prelude.{◌≡◌, ◌⊎◌, ℕ, zero, suc, ◌+◌, ◌-◌, ◌*◌, ◌/◌, ◌<◌, ◌≤◌, ◌&&◌, min, nat_lt, is_some, Bool, true, false, if◌then◌else◌}
-use Rattle.std.specs.Prelude.{List, [], ◌∷◌, ◌++◌, length, take, drop, Option, None, Some, IsTrue}
+use Rattle.std.specs.Prelude.{◌≡◌, ◌⊎◌, ℕ, zero, suc, ◌+◌, ◌*◌, ◌/◌, ◌<◌, ◌≤◌, ◌&&◌, min, nat_lt, is_some, Bool, true, false, if◌then◌else◌}
+use Rattle.std.specs.Prelude.{List, [], ◌∷◌, length, Option, None, Some, IsTrue}
 use Rattle.std.proofs.Common.{refl, sym, ◌∙◌, ap, subst, inl, inr, arith, length-append}
-use Rattle.std.proofs.lemmas.Bool.{cases_lt, lt-ltb, le-ltb}
+use Rattle.std.proofs.lemmas.Bool.{cases_lt, lt-ltb}
 use Rattle.std.proofs.lemmas.List.{take_all, drop_all, get_or_past, get_or_push, get_or_append_left}
-use Rattle.sector_disk.specs.Disk.{Image, sector, Shown, IsNoMore, MayLeave}
+use Rattle.sector_disk.specs.Disk.{sector, Shown, IsNoMore, MayLeave}
 use Rattle.file_disk.specs.Bytes.{sector_of}
 use Rattle.file_disk.specs.Buffers.{Buffers, HasNoRoomBehind, waits, is_missing, is_calm, buffered_now}
 use Rattle.file_disk.specs.Events.{Happened, had_first}

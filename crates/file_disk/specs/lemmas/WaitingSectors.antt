@@ -10,7 +10,7 @@ AreDistinct pages count = (p q : ℕ) → p < count → q < count → (page_at p
 
 -- for the remainder of the number of each of this many pages something is noted
 abbrev pub AreHinted : List WaitingPage → ℕ → List ℕ → Type 0
-AreHinted pages count hints = (p : ℕ) → p < count → slice_index hints ((page_at pages p).number % 4096) ≢ 0
+AreHinted pages count hints = (p : ℕ) → p < count → slice_index hints ((page_at pages p).number % 16384) ≢ 0
 
 -- each of this many pages begins below 2 ^ 64
 abbrev pub ArePlaced : List WaitingPage → ℕ → Type 0
@@ -40,6 +40,10 @@ IsInFile pages bytes content place s =
 -- what was in the file still is
 abbrev pub StaysInFile : List WaitingPage → ℕ → List ℕ → List ℕ → List ℕ → Type 0
 StaysInFile pages count bytes old new = (p s : ℕ) → p < count → s < 8 → IsInFile pages bytes old p s → IsInFile pages bytes new p s
+
+-- all that waits at this many places is in the file
+abbrev pub AreAllInFile : List WaitingPage → ℕ → List ℕ → List ℕ → Type 0
+AreAllInFile pages count bytes content = (p s : ℕ) → p < count → s < 8 → IsInFile pages bytes content p s
 
 -- of the pages from the one number on up to the other all is in the file
 abbrev pub AreInFile : List WaitingPage → ℕ → List ℕ → ℕ → ℕ → List ℕ → Type 0

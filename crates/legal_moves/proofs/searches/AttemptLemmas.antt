@@ -98,10 +98,14 @@ module _ (old new : Found) (shown : Shown) (is : ShowsOne old shown) where
         ∙ ap (λ cs. state_at cs shown.at) (sym more);
   }
 
-  pub still_shown : (game : Game) (e : Regex) (k at : ℕ) → IsTried game e k at (configurations_of old) (configurations_of new) → ShowsOne new shown
-  still_shown game e k at (inl g) = same_shown g.0
-  still_shown game e k at (inr g) = taken g.3
+  pub still_shown_from : (game : Game) (e : Regex) (k : ℕ) (S : SemiState) (at : ℕ)
+      → IsTriedFrom game e k S at (configurations_of old) (configurations_of new) → ShowsOne new shown
+  still_shown_from game e k S at (inl g) = same_shown g.0
+  still_shown_from game e k S at (inr g) = taken g.3
     where
       taken : IsTaken (configurations_of old) g.0 (configurations_of new) → ShowsOne new shown
       taken (inl t) = same_shown t.0
       taken (inr t) = longer_shown g.0 t.0
+
+  pub still_shown : (game : Game) (e : Regex) (k at : ℕ) → IsTried game e k at (configurations_of old) (configurations_of new) → ShowsOne new shown
+  still_shown game e k at tried = still_shown_from game e k (state_at (configurations_of old) at) at tried

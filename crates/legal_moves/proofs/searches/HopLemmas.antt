@@ -1,5 +1,5 @@
 -- A search that goes from one action other than a shift to the next: what it keeps as it goes on.
-use Rattle.std.proofs.Common.{◌≡◌, ℕ, zero, suc, ◌+◌, ◌<◌, ◌≤◌, ◌⊎◌, inl, inr, true, false, List, [], ◌∷◌, ◌++◌, length, map, Option, Some, None, slice_get, refl, sym, ap, ◌∙◌, subst, arith, length-append}
+use Rattle.std.proofs.Common.{◌≡◌, ℕ, zero, suc, ◌+◌, ◌<◌, ◌≤◌, ◌⊎◌, inl, inr, true, false, List, [], ◌∷◌, ◌++◌, length, map, Some, slice_get, refl, sym, ap, ◌∙◌, subst, arith, length-append}
 use Rattle.std.proofs.lemmas.Bool.{cases_lt}
 use Rattle.std.proofs.lemmas.List.{length-map}
 use Rattle.rbg_game.specs.Rules.{Regex, count, shift, action_at, is_switch}
@@ -10,10 +10,10 @@ use Rattle.rbg_game.specs.declared.position.SemiState.{SemiState}
 use Rattle.legal_moves.specs.Effects.{EffectAt}
 use Rattle.legal_moves.specs.Glushkov.{IsNextAt}
 use Rattle.legal_moves.specs.Searches.{place_at, Searched, begun, gone}
-use Rattle.legal_moves.specs.Jumps.{label_in, IsShiftTo, Shifts, still, further, IsRow}
+use Rattle.legal_moves.specs.Jumps.{IsShiftTo, Shifts, still, further, IsRow}
 use Rattle.legal_moves.specs.Configurations.{Configuration}
 use Rattle.legal_moves.specs.lemmas.Configurations.{AsksTooMuch, OccurrenceLeads, opening}
-use Rattle.legal_moves.specs.lemmas.Hops.{IsGoneOver, IsHopped, IsHopping, AreStillThere, AreListedFrom, AreCounted}
+use Rattle.legal_moves.specs.lemmas.Hops.{IsGoneOver, IsHopped, IsHopping, AreStillThere, AreCounted}
 use Rattle.legal_moves.specs.lemmas.Progress.{began, IsTaken, IsTriedFrom}
 use Rattle.legal_moves.specs.lemmas.Reached.{IsMetBy, IsAmongFound}
 use Rattle.legal_moves.specs.lemmas.VertexSearch.{at_vertex}

@@ -14,16 +14,17 @@ ghost use Rattle.legal_moves.specs.lemmas.Configurations.{expression_at, IsReady
 ghost use Rattle.legal_moves.specs.lemmas.Hops.{IsHopping, AreStillThere, AreCounted};
 ghost use Rattle.legal_moves.specs.lemmas.Progress.{began, state_at, IsTriedFrom};
 ghost use Rattle.legal_moves.specs.lemmas.Reached.{AreReached};
-ghost use Rattle.legal_moves.specs.lemmas.Stands.{configurations_of, AreKept};
-ghost use Rattle.legal_moves.specs.lemmas.VertexSearch.{at_vertex};
+ghost use Rattle.legal_moves.specs.lemmas.Stands.{configurations_of, AreKept, ShowsOne};
+ghost use Rattle.legal_moves.specs.lemmas.VertexSearch.{at_vertex, TellsAt};
 
 use crate::automaton::jumps::{Jump, Jumps};
-use crate::copies::empty_state;
-use crate::effect::Glance;
+use crate::automaton::table::Step;
+use crate::copies::copied_state;
+use crate::effect::{Glance, glance_where_seen};
 use crate::fault::MoveFault;
 use crate::limits::WIDEST;
 use crate::search::answers::LastPattern;
-use crate::search::found::{Found, Stand};
+use crate::search::found::{Found, Shown, Stand};
 use crate::search::room::Room;
 use crate::search::searcher::Searcher;
 use rbg_game::position::SemiState;
@@ -85,7 +86,10 @@ impl Hopper<'_> {
             return Ok(None);
         }
         let mut found = Found::begun(self.searcher.alloc, &mut room.founds, state)?;
-        let mut here = empty_state();
+        let mut here = Shown {
+            at: 0,
+            state: copied_state(state),
+        };
         let mut left = WIDEST - 1;
         let mut at = 0;
         while at < found.stands.len() {
@@ -108,7 +112,7 @@ impl Hopper<'_> {
         place: u16,
         found: &mut Found,
         at: usize,
-        here: &mut SemiState,
+        here: &mut Shown,
     ) -> Result<usize, MoveFault>
         requires ready { IsReady (game_of self.now.searcher.game.now) self.now.searcher.tables.now index }
         requires same { AreSame (inner_of (game_of self.now.searcher.game.now).rules) self.now.searcher.same.now }
@@ -118,31 +122,25 @@ impl Hopper<'_> {
         requires place { place ≤ count (expression_at (game_of self.now.searcher.game.now) index) }
         requires at { at < length found.old.stands.items }
         requires kept { AreKept found.old }
+        requires shown { ShowsOne found.old here.old }
         requires hopping { let game = game_of self.now.searcher.game.now in let cs = configurations_of found.old in
             IsHopping game (expression_at game index) place (began cs) cs at }
         ensures kept { OnOk result (AreKept found.new) }
+        ensures shown { OnOk result (ShowsOne found.new here.new) }
         ensures still { OnOk result (AreStillThere (configurations_of found.old) (configurations_of found.new)) }
         ensures hopping { let game = game_of self.now.searcher.game.now in let cs = configurations_of found.old in OnOk result
             (IsHopping game (expression_at game index) place (began cs) (configurations_of found.new) (at + 1)) }
         ensures counted { let game = game_of self.now.searcher.game.now in let cs = configurations_of found.old in IfOk result
             (λ n. (c : Configuration) → slice_get cs at ≡ Some c → AreCounted game (expression_at game index) place c n) }
     {
-        let Stand {
-            board,
-            mover,
-            vertex,
-            ends,
-            ..
-        } = found.stands[at];
+        let Stand { ends, .. } = found.stands[at];
         if ends {
             return Ok(1);
         }
-        found.boards.put(board, mover, vertex, here);
         self.hop_over(room, index, place, found, at, here)
     }
 
-    /// Adds what the jumps of the row lead to from a configuration that ends no move; `here` is its semi-state. The number is that
-    /// of `hop_from`.
+    /// Adds what the jumps of the row lead to from a configuration that ends no move. The number is that of `hop_from`.
     fn hop_over(
         &self,
         room: &mut Room,
@@ -150,7 +148,7 @@ impl Hopper<'_> {
         place: u16,
         found: &mut Found,
         at: usize,
-        here: &SemiState,
+        here: &mut Shown,
     ) -> Result<usize, MoveFault>
         requires ready { IsReady (game_of self.now.searcher.game.now) self.now.searcher.tables.now index }
         requires same { AreSame (inner_of (game_of self.now.searcher.game.now).rules) self.now.searcher.same.now }
@@ -160,12 +158,13 @@ impl Hopper<'_> {
         requires place { place ≤ count (expression_at (game_of self.now.searcher.game.now) index) }
         requires at { at < length found.old.stands.items }
         requires kept { AreKept found.old }
-        requires here { here.now ≡ state_at (configurations_of found.old) at }
+        requires shown { ShowsOne found.old here.old }
         requires plain { let e = expression_at (game_of self.now.searcher.game.now) index in (c : Configuration)
             → slice_get (configurations_of found.old) at ≡ Some c → is_switch (action_at e 1 c.at.place) ≡ false }
         requires hopping { let game = game_of self.now.searcher.game.now in let cs = configurations_of found.old in
             IsHopping game (expression_at game index) place (began cs) cs at }
         ensures kept { OnOk result (AreKept found.new) }
+        ensures shown { OnOk result (ShowsOne found.new here.new) }
         ensures still { OnOk result (AreStillThere (configurations_of found.old) (configurations_of found.new)) }
         ensures hopping { let game = game_of self.now.searcher.game.now in let cs = configurations_of found.old in OnOk result
             (IsHopping game (expression_at game index) place (began cs) (configurations_of found.new) (at + 1)) }
@@ -189,14 +188,14 @@ impl Hopper<'_> {
         Ok(row.met)
     }
 
-    /// Adds what one jump leads to from the configuration at the index, whose semi-state is here.
+    /// Adds what one jump leads to from the configuration at the index.
     fn hop_on(
         &self,
         room: &mut Room,
         index: usize,
         found: &mut Found,
         at: usize,
-        here: &SemiState,
+        here: &mut Shown,
         jump: Jump,
         known: &mut Option<LastPattern>,
     ) -> Result<(), MoveFault>
@@ -205,23 +204,22 @@ impl Hopper<'_> {
         requires jumps { AreJumps (game_of self.now.searcher.game.now) self.now.searcher.tables.now self.now.searcher.jumps.now }
         requires at { at < length found.old.stands.items }
         requires kept { AreKept found.old }
-        requires here { here.now ≡ state_at (configurations_of found.old) at }
-        requires state { IsStateOf (game_of self.now.searcher.game.now) (at_vertex here.now jump.vertex) }
+        requires shown { ShowsOne found.old here.old }
+        requires state { IsStateOf (game_of self.now.searcher.game.now) (at_vertex (state_at (configurations_of found.old) at) jump.vertex) }
         requires from { 1 ≤ jump.number }
         requires upto { jump.number ≤ count (expression_at (game_of self.now.searcher.game.now) index) }
-        requires known { IsAnswerAt (game_of self.now.searcher.game.now) (at_vertex here.now jump.vertex) known.old }
-        ensures known { OnOk result (IsAnswerAt (game_of self.now.searcher.game.now) (at_vertex here.now jump.vertex) known.new) }
+        requires known { IsAnswerAt (game_of self.now.searcher.game.now) (at_vertex (state_at (configurations_of found.old) at) jump.vertex) known.old }
+        ensures known { OnOk result
+            (IsAnswerAt (game_of self.now.searcher.game.now) (at_vertex (state_at (configurations_of found.old) at) jump.vertex) known.new) }
         ensures kept { OnOk result (AreKept found.new) }
-        ensures tried { let game = game_of self.now.searcher.game.now in let S = at_vertex here.now jump.vertex in OnOk result
-            (IsTriedFrom game (expression_at game index) jump.number S at (configurations_of found.old) (configurations_of found.new)) }
-        ensures narrow { let game = game_of self.now.searcher.game.now in let S = at_vertex here.now jump.vertex in IsOk result
-            → ¬ AsksTooMuch game (expression_at game index) jump.number S }
+        ensures shown { OnOk result (ShowsOne found.new here.new) }
+        ensures tried { let game = game_of self.now.searcher.game.now in let S = at_vertex (state_at (configurations_of found.old) at) jump.vertex in
+            OnOk result (IsTriedFrom game (expression_at game index) jump.number S at (configurations_of found.old) (configurations_of found.new)) }
+        ensures narrow { let game = game_of self.now.searcher.game.now in let S = at_vertex (state_at (configurations_of found.old) at) jump.vertex in
+            IsOk result → ¬ AsksTooMuch game (expression_at game index) jump.number S }
     {
         let Jump { number, vertex } = jump;
-        match self
-            .searcher
-            .glance_at(room, index, here, vertex, number, known)?
-        {
+        match self.glance_over(room, index, found, at, here, jump, known)? {
             Glance::Fails => Ok(()),
             Glance::At(vertex) => {
                 let Stand { board, mover, .. } = found.stands[at];
@@ -236,6 +234,51 @@ impl Hopper<'_> {
                 })
             }
             Glance::Writes => self.searcher.write(room, index, found, at, vertex, number),
+        }
+    }
+
+    /// What the jump's occurrence comes to in the configuration at the index, were it at the jump's vertex. Only a pattern has it shown.
+    #[inline(always)]
+    fn glance_over(
+        &self,
+        room: &mut Room,
+        index: usize,
+        found: &Found,
+        at: usize,
+        here: &mut Shown,
+        jump: Jump,
+        known: &mut Option<LastPattern>,
+    ) -> Result<Glance, MoveFault>
+        requires ready { IsReady (game_of self.now.searcher.game.now) self.now.searcher.tables.now index }
+        requires same { AreSame (inner_of (game_of self.now.searcher.game.now).rules) self.now.searcher.same.now }
+        requires jumps { AreJumps (game_of self.now.searcher.game.now) self.now.searcher.tables.now self.now.searcher.jumps.now }
+        requires at { at < length found.now.stands.items }
+        requires kept { AreKept found.now }
+        requires shown { ShowsOne found.now here.old }
+        requires state { IsStateOf (game_of self.now.searcher.game.now) (at_vertex (state_at (configurations_of found.now) at) jump.vertex) }
+        requires from { 1 ≤ jump.number }
+        requires upto { jump.number ≤ count (expression_at (game_of self.now.searcher.game.now) index) }
+        requires known { IsAnswerAt (game_of self.now.searcher.game.now) (at_vertex (state_at (configurations_of found.now) at) jump.vertex) known.old }
+        ensures known { OnOk result
+            (IsAnswerAt (game_of self.now.searcher.game.now) (at_vertex (state_at (configurations_of found.now) at) jump.vertex) known.new) }
+        ensures shown { OnOk result (ShowsOne found.now here.new) }
+        ensures tells { let game = game_of self.now.searcher.game.now in IfOk result
+            (TellsAt game (expression_at game index) jump.number (at_vertex (state_at (configurations_of found.now) at) jump.vertex)) }
+        ensures narrow { let game = game_of self.now.searcher.game.now in IsOk result
+            → ¬ AsksTooMuch game (expression_at game index) jump.number (at_vertex (state_at (configurations_of found.now) at) jump.vertex) }
+    {
+        let Jump { number, vertex } = jump;
+        match self.searcher.tables[index].step(number) {
+            Step::Act(action) => {
+                let Stand { board, mover, .. } = found.stands[at];
+                let seen = found.boards.seen(board, mover, vertex);
+                Ok(glance_where_seen(self.searcher.game, action, seen))
+            }
+            Step::Ask(_, _) => {
+                found.show(at, here);
+                self.searcher
+                    .glance_at(room, index, &here.state, vertex, number, known)
+            }
         }
     }
 }

@@ -1,12 +1,8 @@
 -- How a page is joined of its sectors, and that the same sectors make the same page.
-use Rattle.std.specs.Prelude.{◌⊎◌, ℕ, zero, suc, ◌+◌, ◌*◌, ◌<◌, ◌≤◌, [], ◌++◌, ◌≡◌}
+use Rattle.std.specs.Prelude.{ℕ, zero, suc, ◌+◌, ◌*◌, ◌<◌, ◌≤◌, [], ◌++◌, ◌≡◌}
 use Rattle.sector_disk.specs.Disk.{Image, sector}
 use Rattle.page_store.specs.Page.{joined, page, IsWithin}
 use Rattle.std.proofs.Common.{refl, arith}
-
--- a sector of none but other pages
-abbrev pub IsOutside : ℕ → ℕ → Type 0
-IsOutside number k = (k < 8 * number) ⊎ (8 * number + 8 ≤ k)
 
 pub joined-none : (image : Image) (at : ℕ) → joined image at 0 ≡ []
 unfolding joined

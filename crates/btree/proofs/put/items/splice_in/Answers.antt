@@ -4,7 +4,7 @@ use Rattle.btree.specs.declared.page.kind.Kind.{Kind}
 use Rattle.btree.specs.declared.page.widths.Widths.{Widths}
 use Rattle.btree.specs.Page.{behind_of, count_in, item_width}
 use Rattle.btree.proofs.pages.Room.{are_within, word, head_word, head_within, width_word, few_items}
-use Rattle.btree.proofs.pages.ItemBytes.{distribute, head_stays, page_listed, page_elsewhere}
+use Rattle.btree.proofs.pages.ItemBytes.{distribute, head_stays, page_listed}
 use Rattle.btree.proofs.put.items.splice_in.Goals as goal
 
 -- where the items lie that are put in
@@ -178,11 +178,3 @@ returns-clause-items c =
     page_listed w.key (behind_of w c.args.kind) c.behind_of.result c.args.from c.args.to (count_in c.args.page.now) c.args.count c.count_of-all.result
     c.args.page.now c.move_within.new.page c.copy_from_slice.new.self c.args.bytes.now _ c.behind_of.ensures page.long c.requires.order c.requires.within page.fits c.count_of-all.ensures c.requires.whole c.requires.room
     c.move_within.ensures c.copy_from_slice.ensures.after refl _ _ c.set_count.ensures.items c.set_count.ensures.count
-
-pub returns-clause-elsewhere : goal.returns-clause-elsewhere
-returns-clause-elsewhere c =
-    let w = c.args.widths in
-    let page = c.requires.page in
-    page_elsewhere w.key (behind_of w c.args.kind) c.behind_of.result c.args.from c.args.to (count_in c.args.page.now) c.args.count c.count_of-all.result
-    c.args.page.now c.move_within.new.page c.copy_from_slice.new.self c.args.bytes.now _ c.behind_of.ensures page.long c.requires.order c.requires.within page.fits c.count_of-all.ensures c.requires.whole c.requires.room
-    c.move_within.ensures c.copy_from_slice.ensures.after refl _ c.set_count.ensures.items

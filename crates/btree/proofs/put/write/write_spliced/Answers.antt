@@ -64,7 +64,7 @@ returns-clause-written g c =
     let kind = c.args.kind in
     let items = c.args.items.now in
     let was = items_in w kind c.args.bytes.now in
-    let now = c.splice_in-span.new.page in
+    let now = c.splice_in.new.page in
     let old = g.P.Pages.store c.args.store.now in
     let new = g.P.Pages.store c.write_page.new.self in
     let first = c.in_ok-first.ensures.ok in
@@ -75,15 +75,15 @@ returns-clause-written g c =
     let key : List ℕ = take (4 + w.key - 4) (drop 4 now) in
     let amount : 4 + w.key - 4 ≡ w.key = omega arith in
     let top : Item = (key, big_bytes 4 q) in
-    let are : items_in w kind now ≡ list = c.splice_in-span.ensures.items
+    let are : items_in w kind now ≡ list = c.splice_in.ensures.items
     ∙ ap (λ (bs : List ℕ). take c.args.from was ++ (items_of w.key (behind_of w kind) items.count bs ++ drop c.args.to was)) c.deref.ensures.0 in
     subst (λ (tops : List Item). AreWritten w kind c.args.page list tops old new)
     (sym (as_listed w.key c.no_few_items-tops.result.count c.lead_to.new.items.count c.no_few_items-tops.result.bytes.items c.lead_to.new.items.bytes.items key q c.no_few_items-tops.ensures.count c.lead_to.ensures.listed))
     (written_one w kind c.args.page old list q top (g.P.Pages.store c.renewed.new.store) new
     (leads_back q (omega (arith, first.there, few)))
     (sym (ap first_key are) ∙ first_of w.key (behind_of w kind) (count_in now) (drop 4 now)
-    (some kind (count_in now) c.splice_in-span.ensures.page.enough) ∙ ap (λ (n : ℕ). Some (take n (drop 4 now))) (sym amount))
-    first.place first.works first.is_page first.there (λ honest. subst (IsPage w kind) (sym (wrote.written honest)) c.splice_in-span.ensures.page)
+    (some kind (count_in now) c.splice_in.ensures.page.enough) ∙ ap (λ (n : ℕ). Some (take n (drop 4 now))) (sym amount))
+    first.place first.works first.is_page first.there (λ honest. subst (IsPage w kind) (sym (wrote.written honest)) c.splice_in.ensures.page)
     (λ honest. ap (items_in w kind) (wrote.written honest) ∙ are) wrote.others wrote.marks)
 
 pub overflow_add-total : goal.overflow_add-total
@@ -160,32 +160,32 @@ pub renewed-requires-clause-there : goal.renewed-requires-clause-there
 renewed-requires-clause-there g c =
     c.requires.there
 
-pub splice_in-span-requires-clause-page : goal.splice_in-span-requires-clause-page
-splice_in-span-requires-clause-page g c =
+pub splice_in-requires-clause-page : goal.splice_in-requires-clause-page
+splice_in-requires-clause-page g c =
     c.requires.form
 
-pub splice_in-span-requires-clause-order : goal.splice_in-span-requires-clause-order
-splice_in-span-requires-clause-order g c =
+pub splice_in-requires-clause-order : goal.splice_in-requires-clause-order
+splice_in-requires-clause-order g c =
     c.requires.order
 
-pub splice_in-span-requires-clause-within : goal.splice_in-span-requires-clause-within
-splice_in-span-requires-clause-within g c =
+pub splice_in-requires-clause-within : goal.splice_in-requires-clause-within
+splice_in-requires-clause-within g c =
     c.requires.within
 
-pub splice_in-span-requires-clause-few : goal.splice_in-span-requires-clause-few
-splice_in-span-requires-clause-few g c =
+pub splice_in-requires-clause-few : goal.splice_in-requires-clause-few
+splice_in-requires-clause-few g c =
     c.requires.few
 
-pub splice_in-span-requires-clause-enough : goal.splice_in-span-requires-clause-enough
-splice_in-span-requires-clause-enough g c =
+pub splice_in-requires-clause-enough : goal.splice_in-requires-clause-enough
+splice_in-requires-clause-enough g c =
     c.requires.enough
 
-pub splice_in-span-requires-clause-whole : goal.splice_in-span-requires-clause-whole
-splice_in-span-requires-clause-whole g c =
+pub splice_in-requires-clause-whole : goal.splice_in-requires-clause-whole
+splice_in-requires-clause-whole g c =
     ap length c.deref.ensures.0 ∙ c.requires.whole
 
-pub splice_in-span-requires-clause-room : goal.splice_in-span-requires-clause-room
-splice_in-span-requires-clause-room g c =
+pub splice_in-requires-clause-room : goal.splice_in-requires-clause-room
+splice_in-requires-clause-room g c =
     subst (λ (n : ℕ). n ≤ 4092) (as_wide c.args.widths c.args.kind c.behind_of.result c.args.from c.args.items.now.count c.args.to
     (count_in c.args.bytes.now) c.count_of.result c.behind_of.ensures c.count_of.ensures) c.if-total-widths-gt-ROOM.false
 
@@ -211,7 +211,7 @@ slice_bounds-lead_to-start g c =
 
 pub lead_to-requires-clause-key : goal.lead_to-requires-clause-key
 lead_to-requires-clause-key g c =
-    key_long c.args.widths c.splice_in-span.new.page c.splice_in-span.ensures.page.long
+    key_long c.args.widths c.splice_in.new.page c.splice_in.ensures.page.long
 
 pub lead_to-requires-clause-few : goal.lead_to-requires-clause-few
 lead_to-requires-clause-few g c =

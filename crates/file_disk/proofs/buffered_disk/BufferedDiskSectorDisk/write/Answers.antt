@@ -1,4 +1,4 @@
-use Rattle.std.proofs.Common.{◌∙◌, ◌≢◌, arith, ℕ, sym}
+use Rattle.std.proofs.Common.{◌∙◌, ◌≢◌, arith, ℕ}
 use Rattle.sector_disk.specs.Disk.{Keeps}
 use Rattle.file_disk.specs.Buffers.{Buffers}
 use Rattle.file_disk.proofs.Disks.{word, below, sector_now, both_now, steps_over, write_steps, write_keeps, counted_over, ok_on}

@@ -1,4 +1,4 @@
-use Rattle.std.proofs.Common.{rules, sym, subst, ◌∙◌, ◌≡◌, Bool, true, false, arith}
+use Rattle.std.proofs.Common.{rules, sym, subst, ◌∙◌, ◌≡◌, Bool, true, false}
 use Rattle.std.specs.Prelude.{IsTrue}
 use Rattle.file_disk.proofs.Flushes.{on_true, true_on}
 use Rattle.file_disk.proofs.Events.{cuts, lengthens, lengthens_none}

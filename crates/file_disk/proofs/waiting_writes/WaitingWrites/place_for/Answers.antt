@@ -13,7 +13,7 @@ invariant_of-self c =
       distinct = added_distinct _ _ _ room none c.args.self.now.distinct;
       placed = added_placed _ _ _ room c.requires c.args.self.now.placed;
       hinted = search rules;
-      noted = added_noted _ _ _ _ _ room c.hint_of.ensures (omega (arith, c.hint_of.ensures, c.args.self.now.hinted)) c.args.self.now.noted;
+      noted = added_noted _ _ _ _ _ _ c.note_of.ensures room c.hint_of.ensures (omega (arith, c.hint_of.ensures, c.args.self.now.hinted)) c.args.self.now.noted;
     }
 
 pub returns-clause-same : goal.returns-clause-same

@@ -1,7 +1,5 @@
-use Rattle.std.proofs.Common.{◌≡◌, true, length, Some, slice_get, IfOk, sym, ap, ◌∙◌, subst}
+use Rattle.std.proofs.Common.{◌≡◌, true, Some, sym, ap, ◌∙◌, subst}
 use Rattle.std.proofs.lemmas.Result.{IfOk-weaker}
-use Rattle.rbg_game.specs.Meaning.{game_of}
-use Rattle.legal_moves.specs.lemmas.Configurations.{expression_at}
 use Rattle.legal_moves.specs.declared.automaton.table.Table.{Table}
 use Rattle.legal_moves.proofs.automata.ReadyLemmas.{read_at}
 use Rattle.legal_moves.proofs.automaton.jumps.jumps_of.Goals as goal

@@ -1,4 +1,4 @@
-use Rattle.std.proofs.Common.{◌≡◌, ◌-◌, ◌≤◌, IfOk, length, refl, sym, ap, ◌∙◌, subst, arith}
+use Rattle.std.proofs.Common.{◌≡◌, ◌-◌, ◌≤◌, IfOk, length, refl, sym, subst, arith}
 use Rattle.rbg_game.specs.Rules.{count}
 use Rattle.rbg_game.specs.Meaning.{game_of}
 use Rattle.rbg_game.specs.Positions.{IsPositionOf}
@@ -6,7 +6,7 @@ use Rattle.legal_moves.specs.Compiled.{compiled_game}
 use Rattle.legal_moves.specs.Jumps.{AreJumpRows, AreJumps}
 use Rattle.legal_moves.specs.Searches.{IsWide}
 use Rattle.legal_moves.specs.Tables.{inner_of, AreSame}
-use Rattle.legal_moves.specs.lemmas.Configurations.{expression_at, IsReady}
+use Rattle.legal_moves.specs.lemmas.Configurations.{IsReady}
 use Rattle.legal_moves.specs.lemmas.Reached.{AreReached}
 use Rattle.legal_moves.specs.lemmas.Stands.{configurations_of}
 use Rattle.legal_moves.proofs.automata.CompiledLemmas.{rules_at, rules_wide, rules_ready}

@@ -3,7 +3,7 @@ use Rattle.std.specs.Result.{is_err}
 use Rattle.page_store.specs.lemmas.Works.{works_refl, closes_same, closes_failed}
 use Rattle.page_store.proofs.CachedPages.{carried, added, fresh_kept, is_ok}
 use Rattle.page_store.proofs.Soundness.{reads_else, sectors_else, works_write, was_honest, not_system}
-use Rattle.page_store.proofs.PageSectors.{all_meant, sectors_read}
+use Rattle.page_store.proofs.PageSectors.{sectors_read}
 use Rattle.page_store.proofs.Exits.{not_closed, counted_ok, counted_err}
 use Rattle.page_store.proofs.store.PageStorePages.write_page.Goals as goal
 
@@ -11,40 +11,39 @@ pub returns-then-self-clause-works : goal.returns-then-self-clause-works
 returns-then-self-clause-works g c = works_refl _
 
 pub returns-in-Err-clause-others : goal.returns-in-Err-clause-others
-returns-in-Err-clause-others g c = λ h. reads_else _ _ _ c.put_page-written.ensures.put.kept h
+returns-in-Err-clause-others g c = λ h. reads_else _ _ _ c.write_page-written.ensures.put.kept h
 
 pub returns-in-Ok-clause-others : goal.returns-in-Ok-clause-others
-returns-in-Ok-clause-others g c = λ h. reads_else _ _ _ c.put_page-written.ensures.put.kept h
+returns-in-Ok-clause-others g c = λ h. reads_else _ _ _ c.write_page-written.ensures.put.kept h
 
 pub returns-in-Ok-clause-written : goal.returns-in-Ok-clause-written
 returns-in-Ok-clause-written g c = λ h. sym
     (sectors_read _ _ _ (is_ok _ _ c.in-Ok.is
-    (c.put_page-written.ensures.written h (λ k elsewhere. absurd (all_meant _ _ c.whole.ensures.from c.whole.ensures.to k elsewhere)))))
+    (c.write_page-written.ensures.written h)))
 
 pub returns-in-Err-clause-works : goal.returns-in-Err-clause-works
 returns-in-Err-clause-works g c =
-    works_write _ _ _ c.args.self.now.sound c.requires refl refl refl c.put_page-written.ensures.put.kept c.put_page-written.ensures.put.time c.put_page-written.ensures.put.same_size c.put_page-written.ensures.cause.later (λ closed. c.if-self.false)
-    (closes_failed (c.is_err-self.ensures.value ∙ ap is_err c.in-Err.is) (counted_err _ (ap is_err c.in-Err.is) c.put_page-written.ensures.counted))
+    works_write _ _ _ c.args.self.now.sound c.requires refl refl refl c.write_page-written.ensures.put.kept c.write_page-written.ensures.put.time c.write_page-written.ensures.put.same_size c.write_page-written.ensures.cause.later (λ closed. c.if-self.false)
+    (closes_failed (c.is_err-self.ensures.value ∙ ap is_err c.in-Err.is) (counted_err _ (ap is_err c.in-Err.is) c.write_page-written.ensures.counted))
 
 pub returns-in-Ok-clause-works : goal.returns-in-Ok-clause-works
 returns-in-Ok-clause-works g c =
-    works_write _ _ _ c.args.self.now.sound c.requires refl refl refl c.put_page-written.ensures.put.kept c.put_page-written.ensures.put.time c.put_page-written.ensures.put.same_size c.put_page-written.ensures.cause.later (λ closed. c.if-self.false)
+    works_write _ _ _ c.args.self.now.sound c.requires refl refl refl c.write_page-written.ensures.put.kept c.write_page-written.ensures.put.time c.write_page-written.ensures.put.same_size c.write_page-written.ensures.cause.later (λ closed. c.if-self.false)
     (closes_same (c.is_err-self.ensures.value ∙ ap is_err c.in-Ok.is ∙ sym c.if-self.false)
-    (counted_ok _ (ap is_err c.in-Ok.is) c.put_page-written.ensures.counted))
+    (counted_ok _ (ap is_err c.in-Ok.is) c.write_page-written.ensures.counted))
 
 pub invariant_of-self-in-Err-clause-cached : goal.invariant_of-self-in-Err-clause-cached
 invariant_of-self-in-Err-clause-cached g c =
     carried _ _ _ _ c.args.self.now.cached (λ p held there. (c.forget.ensures p held there).1)
-    (was_honest c.put_page-written.ensures.put.time) (λ p held there kept. kept)
-    (λ h p held there behind. sectors_else _ _ _ c.put_page-written.ensures.put.kept h p (c.forget.ensures p held there).0)
+    (was_honest c.write_page-written.ensures.put.time) (λ p held there kept. kept)
+    (λ h p held there behind. sectors_else _ _ _ c.write_page-written.ensures.put.kept h p (c.forget.ensures p held there).0)
 
 pub invariant_of-self-clause-cached : goal.invariant_of-self-clause-cached
 invariant_of-self-clause-cached g c =
-    added _ _ _ _ _ _ c.args.self.now.cached c.put-no_memory.ensures (was_honest c.put_page-written.ensures.put.time) refl
+    added _ _ _ _ _ _ c.args.self.now.cached c.keep-no_memory.ensures (was_honest c.write_page-written.ensures.put.time) refl
     (fresh_kept _ _ (not_system _ _ c.args.self.now.sound.system c.requires) c.requires)
-    (λ h. is_ok _ _ c.in-Ok.is (c.put_page-written.ensures.written h
-    (λ k elsewhere. absurd (all_meant _ _ c.whole.ensures.from c.whole.ensures.to k elsewhere))))
-    (sectors_else _ _ _ c.put_page-written.ensures.put.kept)
+    (λ h. is_ok _ _ c.in-Ok.is (c.write_page-written.ensures.written h))
+    (sectors_else _ _ _ c.write_page-written.ensures.put.kept)
 
 pub returns-then-self-clause-written : goal.returns-then-self-clause-written
 returns-then-self-clause-written g c = λ honest. tt

@@ -1,10 +1,10 @@
-use Rattle.std.proofs.Common.{◌≡◌, ◌+◌, ◌-◌, ◌<◌, ◌≤◌, length, Some, slice_get, refl, sym, ap, ◌∙◌, subst, arith}
+use Rattle.std.proofs.Common.{◌≡◌, ◌+◌, ◌-◌, ◌≤◌, length, sym, ap, ◌∙◌, subst, arith}
 use Rattle.std.proofs.lemmas.List.{length-map}
 use Rattle.rbg_game.specs.Meaning.{game_of}
 use Rattle.legal_moves.specs.lemmas.Boards.{boards_in}
-use Rattle.legal_moves.specs.lemmas.Configurations.{expression_at, opening}
+use Rattle.legal_moves.specs.lemmas.Configurations.{expression_at}
 use Rattle.legal_moves.specs.lemmas.Hops.{IsHopping}
-use Rattle.legal_moves.specs.lemmas.Progress.{began}
+use Rattle.legal_moves.specs.lemmas.Progress.{began, state_at}
 use Rattle.legal_moves.specs.lemmas.Stands.{stood, configurations_of}
 use Rattle.legal_moves.proofs.GetLemmas.{slice_get-there}
 use Rattle.legal_moves.proofs.searches.HopLemmas.{hopping_begun, began_hopping}
@@ -20,6 +20,10 @@ loop-at-init c =
     let found = c.in_ok-found.found in
     record {
       kept = c.in_ok-found.ensures.kept;
+      shown = record {
+        at_one = omega (arith, ap length c.in_ok-found.ensures.opening, length-map found.stands.items (stood (boards_in found.boards)));
+        state_is = c.copied_state.ensures ∙ ap (λ cs. state_at cs 0) (sym c.in_ok-found.ensures.opening);
+      };
       hopping = subst (λ cs. IsHopping game e place S cs 0) (sym c.in_ok-found.ensures.opening) (hopping_begun game e place S c.requires.state);
       listed = listed_begun game e place S (configurations_of found);
     }
@@ -52,6 +56,7 @@ loop-at-preserved c =
     let met = c.in_ok-met.met in
     record {
       kept = c.in_ok-met.ensures.kept;
+      shown = c.in_ok-met.ensures.shown;
       hopping = subst (λ T. IsHopping game e place T new (at + 1)) began_same c.in_ok-met.ensures.hopping;
       listed = listed_next game e place S cs new at left (left - met) met there.0 c.loop-at.invariant.listed c.in_ok-met.ensures.still there.1
           (c.in_ok-met.ensures.counted there.0 there.1) (omega (arith, c.if-met-left.false));

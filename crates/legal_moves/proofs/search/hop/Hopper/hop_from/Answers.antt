@@ -1,4 +1,4 @@
-use Rattle.std.proofs.Common.{◌≡◌, false, Some, slice_get, refl, sym, ap, ◌∙◌, subst, arith}
+use Rattle.std.proofs.Common.{◌≡◌, false, sym, ◌∙◌, subst, arith}
 use Rattle.rbg_game.specs.Rules.{action_at, is_switch}
 use Rattle.rbg_game.specs.Meaning.{game_of}
 use Rattle.legal_moves.specs.lemmas.Boards.{boards_in}
@@ -7,8 +7,6 @@ use Rattle.legal_moves.specs.lemmas.Hops.{AreCounted}
 use Rattle.legal_moves.specs.lemmas.Progress.{began}
 use Rattle.legal_moves.specs.lemmas.Stands.{stood, configurations_of}
 use Rattle.legal_moves.proofs.automata.ReadyLemmas.{read_at}
-use Rattle.legal_moves.proofs.searches.AttemptLemmas.{state_there}
-use Rattle.legal_moves.proofs.searches.BoardLemmas.{many_boards}
 use Rattle.legal_moves.proofs.searches.FoundLemmas.{same_at}
 use Rattle.legal_moves.proofs.searches.HopLemmas.{hopping_next, hopped_end, counted_end}
 use Rattle.legal_moves.proofs.searches.StandLemmas.{stood_at}
@@ -19,6 +17,9 @@ index-requires c = omega (arith, c.args.found.now.stands.ok.0, c.requires.at)
 
 pub returns-then-ends-clause-kept : goal.returns-then-ends-clause-kept
 returns-then-ends-clause-kept c = c.requires.kept
+
+pub returns-then-ends-clause-shown : goal.returns-then-ends-clause-shown
+returns-then-ends-clause-shown c = c.requires.shown
 
 pub returns-then-ends-clause-still : goal.returns-then-ends-clause-still
 returns-then-ends-clause-still c = λ i x at_x. at_x
@@ -54,32 +55,6 @@ returns-then-ends-clause-counted c =
     let at_b = stood_at bs old.stands.items at s at_s in
     let ends_is = c.requires.hopping.ends_are at b at_b in
     λ d at_d. subst (λ x. AreCounted game e place x 1) (same_at cs at b d at_b at_d) (counted_end game e place (began cs) b (sym ends_is ∙ c.if-ends.true))
-
-pub put-requires-clause-whole : goal.put-requires-clause-whole
-put-requires-clause-whole c = c.requires.kept.whole
-
-pub put-requires-clause-board : goal.put-requires-clause-board
-put-requires-clause-board c =
-    let old = c.args.found.now in
-    let s = c.index.result.now in
-    let at_s = read_at old.stands.items c.args.at s c.requires.at c.index.ensures in
-    omega (arith, many_boards old.boards, c.requires.kept.within c.args.at s at_s)
-
-pub hop_over-requires-clause-here : goal.hop_over-requires-clause-here
-hop_over-requires-clause-here c =
-    let game = game_of c.args.self.now.searcher.game.now in
-    let e = expression_at game c.args.index in
-    let place = c.args.place in
-    let at = c.args.at in
-    let old = c.args.found.now in
-    let bs = boards_in old.boards in
-    let cs = configurations_of old in
-    let s = c.index.result.now in
-    let at_s = read_at old.stands.items at s c.requires.at c.index.ensures in
-    let b = stood bs s in
-    let at_b = stood_at bs old.stands.items at s at_s in
-    let ends_is = c.requires.hopping.ends_are at b at_b in
-    c.put.ensures ∙ sym (state_there bs old.stands.items at s at_s)
 
 pub hop_over-requires-clause-plain : goal.hop_over-requires-clause-plain
 hop_over-requires-clause-plain c =

@@ -1,4 +1,4 @@
-use Rattle.std.proofs.Common.{◌≡◌, ℕ, ◌+◌, ◌<◌, ◌≤◌, ◌⊎◌, inl, inr, get_or, Some, length, slice_get, refl, sym, ap, ◌∙◌, subst, arith}
+use Rattle.std.proofs.Common.{◌≡◌, ℕ, ◌+◌, ◌<◌, ◌≤◌, ◌⊎◌, inl, inr, get_or, Some, slice_get, refl, sym, ◌∙◌, subst, arith}
 use Rattle.std.proofs.lemmas.Bool.{cases_lt}
 use Rattle.std.proofs.lemmas.List.{length-map}
 use Rattle.std.proofs.lemmas.Option.{slice_get-get_or}
@@ -60,7 +60,7 @@ hop_on-requires-clause-at c =
     let b = stood bs s in
     let at_b = stood_at bs old.stands.items at s at_s in
     let plain = c.requires.plain b at_b in
-    let here_is : c.args.here.now ≡ b.at.state = c.requires.here ∙ state_there bs old.stands.items at s at_s in
+    let here_is : state_at cs at ≡ b.at.state = state_there bs old.stands.items at s at_s in
     let row = c.row-row.result.now in
     let inside = (c.requires.hopping.states_are at b at_b).vertex_is in
     let is_row = subst (λ p. IsRow game e p s.vertex row) c.looked_up.ensures
@@ -68,27 +68,6 @@ hop_on-requires-clause-at c =
     let now = c.loop-jump.found in
     let inside = slice_get-within (configurations_of now) at b (c.loop-jump.invariant.still at b at_b) in
     omega (arith, inside, length-map now.stands.items (stood (boards_in now.boards)))
-
-pub hop_on-requires-clause-here : goal.hop_on-requires-clause-here
-hop_on-requires-clause-here c =
-    let game = game_of c.args.self.now.searcher.game.now in
-    let e = expression_at game c.args.index in
-    let place = c.args.place in
-    let at = c.args.at in
-    let old = c.args.found.now in
-    let bs = boards_in old.boards in
-    let cs = configurations_of old in
-    let s = c.index.result.now in
-    let at_s = read_at old.stands.items at s c.requires.at c.index.ensures in
-    let b = stood bs s in
-    let at_b = stood_at bs old.stands.items at s at_s in
-    let plain = c.requires.plain b at_b in
-    let here_is : c.args.here.now ≡ b.at.state = c.requires.here ∙ state_there bs old.stands.items at s at_s in
-    let row = c.row-row.result.now in
-    let inside = (c.requires.hopping.states_are at b at_b).vertex_is in
-    let is_row = subst (λ p. IsRow game e p s.vertex row) c.looked_up.ensures
-    (c.requires.rows.each c.looked_up.result s.vertex row inside c.row-row.ensures) in
-    here_is ∙ sym (state_of (configurations_of c.loop-jump.found) at b (c.loop-jump.invariant.still at b at_b))
 
 pub hop_on-requires-clause-state : goal.hop_on-requires-clause-state
 hop_on-requires-clause-state c =
@@ -104,7 +83,7 @@ hop_on-requires-clause-state c =
     let b = stood bs s in
     let at_b = stood_at bs old.stands.items at s at_s in
     let plain = c.requires.plain b at_b in
-    let here_is : c.args.here.now ≡ b.at.state = c.requires.here ∙ state_there bs old.stands.items at s at_s in
+    let here_is : state_at cs at ≡ b.at.state = state_there bs old.stands.items at s at_s in
     let row = c.row-row.result.now in
     let inside = (c.requires.hopping.states_are at b at_b).vertex_is in
     let is_row = subst (λ p. IsRow game e p s.vertex row) c.looked_up.ensures
@@ -120,7 +99,7 @@ hop_on-requires-clause-state c =
     let now = configurations_of c.loop-jump.found in
     let now_b = c.loop-jump.invariant.still at b at_b in
     let S = began cs in
-    subst (λ T. IsStateOf game (at_vertex T j.vertex)) (sym here_is)
+    subst (λ T. IsStateOf game (at_vertex T j.vertex)) (sym (state_of now at b now_b))
     (state_at_jump game e place S cs at b c.requires.hopping at_b plain c.requires.ready.sound c.requires.ready.expression_is led.0 j.vertex led.1)
 
 pub hop_on-requires-clause-from : goal.hop_on-requires-clause-from
@@ -137,7 +116,7 @@ hop_on-requires-clause-from c =
     let b = stood bs s in
     let at_b = stood_at bs old.stands.items at s at_s in
     let plain = c.requires.plain b at_b in
-    let here_is : c.args.here.now ≡ b.at.state = c.requires.here ∙ state_there bs old.stands.items at s at_s in
+    let here_is : state_at cs at ≡ b.at.state = state_there bs old.stands.items at s at_s in
     let row = c.row-row.result.now in
     let inside = (c.requires.hopping.states_are at b at_b).vertex_is in
     let is_row = subst (λ p. IsRow game e p s.vertex row) c.looked_up.ensures
@@ -169,7 +148,7 @@ hop_on-requires-clause-upto c =
     let b = stood bs s in
     let at_b = stood_at bs old.stands.items at s at_s in
     let plain = c.requires.plain b at_b in
-    let here_is : c.args.here.now ≡ b.at.state = c.requires.here ∙ state_there bs old.stands.items at s at_s in
+    let here_is : state_at cs at ≡ b.at.state = state_there bs old.stands.items at s at_s in
     let row = c.row-row.result.now in
     let inside = (c.requires.hopping.states_are at b at_b).vertex_is in
     let is_row = subst (λ p. IsRow game e p s.vertex row) c.looked_up.ensures
@@ -190,8 +169,22 @@ hop_on-requires-clause-upto c =
 pub hop_on-requires-clause-known : goal.hop_on-requires-clause-known
 hop_on-requires-clause-known c =
     let game = game_of c.args.self.now.searcher.game.now in
-    let e = expression_at game c.args.index in
-    c.ask_at.ensures.known game c.args.here.now c.loop-jump.invariant.known
+    let at = c.args.at in
+    let old = c.args.found.now in
+    let bs = boards_in old.boards in
+    let cs = configurations_of old in
+    let s = c.index.result.now in
+    let at_s = read_at old.stands.items at s c.requires.at c.index.ensures in
+    let b = stood bs s in
+    let at_b = stood_at bs old.stands.items at s at_s in
+    let here_is : state_at cs at ≡ b.at.state = state_there bs old.stands.items at s at_s in
+    let now = configurations_of c.loop-jump.found in
+    let now_is : state_at now at ≡ b.at.state = state_of now at b (c.loop-jump.invariant.still at b at_b) in
+    let items = c.deref-jump-items.result.now in
+    let first : Jump = record { number = 0; vertex = 0 } in
+    let j = get_or items c.loop-jump.jump-index first in
+    subst (λ T. IsAnswerAt game (at_vertex T j.vertex) c.ask_at.new.known) (here_is ∙ sym now_is)
+    (c.ask_at.ensures.known game (state_at cs at) c.loop-jump.invariant.known)
 
 pub loop-jump-preserved : goal.loop-jump-preserved
 loop-jump-preserved c =
@@ -207,7 +200,7 @@ loop-jump-preserved c =
     let b = stood bs s in
     let at_b = stood_at bs old.stands.items at s at_s in
     let plain = c.requires.plain b at_b in
-    let here_is : c.args.here.now ≡ b.at.state = c.requires.here ∙ state_there bs old.stands.items at s at_s in
+    let here_is : state_at cs at ≡ b.at.state = state_there bs old.stands.items at s at_s in
     let row = c.row-row.result.now in
     let inside = (c.requires.hopping.states_are at b at_b).vertex_is in
     let is_row = subst (λ p. IsRow game e p s.vertex row) c.looked_up.ensures
@@ -224,11 +217,12 @@ loop-jump-preserved c =
     let now_b = c.loop-jump.invariant.still at b at_b in
     let S = began cs in
     let new = configurations_of c.hop_on.new.found in
-    let narrow = subst (λ T. ¬ AsksTooMuch game e j.number (at_vertex T j.vertex)) here_is (c.in_ok-hop_on.ensures.narrow refl) in
-    let tried = subst (λ T. IsTriedFrom game e j.number (at_vertex T j.vertex) at now new) here_is c.in_ok-hop_on.ensures.tried in
+    let now_is : state_at now at ≡ b.at.state = state_of now at b now_b in
+    let narrow = subst (λ T. ¬ AsksTooMuch game e j.number (at_vertex T j.vertex)) now_is (c.in_ok-hop_on.ensures.narrow refl) in
+    let tried = subst (λ T. IsTriedFrom game e j.number (at_vertex T j.vertex) at now new) now_is c.in_ok-hop_on.ensures.tried in
     let t = hop_tried game e place S now at b c.loop-jump.invariant.hopping now_b plain c.requires.ready.sound c.requires.ready.expression_is
     led.0 j.vertex led.1 j.number led.2 new narrow tried in
-    let here = c.args.here.now in
+    let here = state_at cs at in
     let all : (i : ℕ) (k : Jump) → (i < n) ⊎ (n ≤ i) → i < n + 1 → slice_get items i ≡ Some k
     → IsGoneOver game e new (at_vertex here k.vertex) k.number = λ i k either less at_k. elim either [
       | inl low ↦ over_still game e place S now new t.stays (at_vertex here k.vertex) k.number (c.loop-jump.invariant.over i k low at_k)
@@ -240,9 +234,11 @@ loop-jump-preserved c =
     ] in
     record {
       kept = c.in_ok-hop_on.ensures.kept;
+      shown = c.in_ok-hop_on.ensures.shown;
       still = λ i x at_x. t.stays i x (c.loop-jump.invariant.still i x at_x);
       hopping = t.goes;
-      known = subst (λ v. IsAnswerAt game (at_vertex here v) c.hop_on.new.known) (sym c.ask_at.ensures.asked) c.in_ok-hop_on.ensures.known;
+      known = subst (λ v. IsAnswerAt game (at_vertex here v) c.hop_on.new.known) (sym c.ask_at.ensures.asked)
+          (subst (λ T. IsAnswerAt game (at_vertex T j.vertex) c.hop_on.new.known) (now_is ∙ sym here_is) c.in_ok-hop_on.ensures.known);
       over = λ i k less at_k. all i k (cases_lt i n) less at_k;
     }
 
@@ -260,7 +256,7 @@ returns-clause-hopping c =
     let b = stood bs s in
     let at_b = stood_at bs old.stands.items at s at_s in
     let plain = c.requires.plain b at_b in
-    let here_is : c.args.here.now ≡ b.at.state = c.requires.here ∙ state_there bs old.stands.items at s at_s in
+    let here_is : state_at cs at ≡ b.at.state = state_there bs old.stands.items at s at_s in
     let row = c.row-row.result.now in
     let inside = (c.requires.hopping.states_are at b at_b).vertex_is in
     let is_row = subst (λ p. IsRow game e p s.vertex row) c.looked_up.ensures
@@ -288,7 +284,7 @@ returns-clause-counted c =
     let b = stood bs s in
     let at_b = stood_at bs old.stands.items at s at_s in
     let plain = c.requires.plain b at_b in
-    let here_is : c.args.here.now ≡ b.at.state = c.requires.here ∙ state_there bs old.stands.items at s at_s in
+    let here_is : state_at cs at ≡ b.at.state = state_there bs old.stands.items at s at_s in
     let row = c.row-row.result.now in
     let inside = (c.requires.hopping.states_are at b at_b).vertex_is in
     let is_row = subst (λ p. IsRow game e p s.vertex row) c.looked_up.ensures
@@ -306,3 +302,6 @@ returns-in_err-hop_on-clause-hopping c = refused _ c.from_residual.result _ c.fr
 
 pub returns-in_err-hop_on-clause-counted : goal.returns-in_err-hop_on-clause-counted
 returns-in_err-hop_on-clause-counted c = refused _ c.from_residual.result _ c.from_residual.ensures.1
+
+pub returns-in_err-hop_on-clause-shown : goal.returns-in_err-hop_on-clause-shown
+returns-in_err-hop_on-clause-shown c = refused _ c.from_residual.result _ c.from_residual.ensures.1

@@ -3,8 +3,8 @@ use Rattle.rbg_game.specs.Meaning.{game_of}
 use Rattle.legal_moves.specs.lemmas.Answers.{IsAnswerAt}
 use Rattle.legal_moves.specs.lemmas.Configurations.{expression_at}
 use Rattle.legal_moves.specs.lemmas.Hops.{IsGoneOver, IsHopping, AreStillThere}
-use Rattle.legal_moves.specs.lemmas.Progress.{began}
-use Rattle.legal_moves.specs.lemmas.Stands.{configurations_of, AreKept}
+use Rattle.legal_moves.specs.lemmas.Progress.{began, state_at}
+use Rattle.legal_moves.specs.lemmas.Stands.{configurations_of, AreKept, ShowsOne}
 use Rattle.legal_moves.specs.lemmas.VertexSearch.{at_vertex}
 use Rattle.legal_moves.specs.declared.automaton.jumps.Jump.{Jump}
 use Rattle.legal_moves.proofs.search.hop.Hopper.hop_over.Given as goal
@@ -17,8 +17,9 @@ invariant-loop-jump l =
     let cs = configurations_of l.found in
     record {
       kept : AreKept l.found;
+      shown : ShowsOne l.found l.here;
       still : AreStillThere first cs;
       hopping : IsHopping game e l.place (began first) cs l.at;
-      known : IsAnswerAt game (at_vertex l.here l.asked) l.known;
-      over : (i : ℕ) (j : Jump) → i < l.jump-index → slice_get l.jump-items i ≡ Some j → IsGoneOver game e cs (at_vertex l.here j.vertex) j.number;
+      known : IsAnswerAt game (at_vertex (state_at first l.at) l.asked) l.known;
+      over : (i : ℕ) (j : Jump) → i < l.jump-index → slice_get l.jump-items i ≡ Some j → IsGoneOver game e cs (at_vertex (state_at first l.at) j.vertex) j.number;
     }
