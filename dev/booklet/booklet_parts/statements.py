@@ -33,6 +33,11 @@ class Statement:
         return "" if self.around is None else self.source.lines[self.around.start].rstrip()
 
     @property
+    def is_provided(self) -> bool:
+        """Whether it is a function of a trait that has a body there."""
+        return self.around is not None and self.around.kind == "trait" and self.source.code[self.item.end - 1].rstrip().endswith("}")
+
+    @property
     def text(self) -> list[str]:
         """The doc comment, the head and the clauses."""
         signature = rust.signature_of(self.source, self.item)

@@ -46,4 +46,7 @@ class Booklet(Case):
     def test_what_is_left_out_is_said(self):
         lines = self.printed()
         self.assertIn("pub struct KnownMoves { .. }", lines)
+        whole = " ".join(lines)
+        self.assertIn("`read_page`, `write_page`, `page_in_memory` and `edit_page` have a body in the trait", whole)
+        self.assertNotRegex(whole, r"fn (read_page|write_page|page_in_memory|edit_page)\b")
         self.assertRegex("\n".join(lines), r"pub enum SolverFault \{[^}]*    OutOfMemory, // E8\n[^}]*    // and \d+ more\n\}")
