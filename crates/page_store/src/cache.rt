@@ -5,6 +5,7 @@ ghost use Rattle.page_store.specs.Places.{StandOnce, StandWhereNoted, kept_at};
 use lru::LruCache;
 use sector_disk::PageEdit;
 use std::alloc::{AllocError, Global};
+use std::cell::Cell;
 use std::num::NonZeroUsize;
 
 /// For so many remainders of page numbers a place is noted.
@@ -18,7 +19,7 @@ pub struct PageCache {
     /// The places, that which was used last first, as it was when a page was dropped last; none where no page is kept.
     order: Option<LruCache<usize, ()>>,
     /// Which places were used since then.
-    marked: Vec<bool>,
+    marked: Vec<Cell<bool>>,
     /// The bytes of the pages.
     kept: Vec<[u8; 4096]>,
     /// For each remainder of a page number one more than the place that got such a page last, or 0 if none did. Of pages with one remainder
@@ -37,6 +38,15 @@ fn hint_of(page: u32) -> usize
     page as usize % HINTS
 }
 
+/// This many places, none of them used.
+fn unmarked_places(alloc: Global, places: usize) -> Result<Vec<Cell<bool>>, AllocError> {
+    let mut marked = Vec::with_capacity(alloc, places)?;
+    for _ in 0..places {
+        marked.push(Cell::new(false))?;
+    }
+    Ok(marked)
+}
+
 impl PageCache {
     ghost use Rattle.page_store.specs.Cache.{HoldsPage, OnlyForgets, HasPlace, IsEditedAt};
 
@@ -52,7 +62,7 @@ impl PageCache {
         Ok(PageCache {
             numbers: vec![in alloc; None; pages]?,
             order,
-            marked: vec![in alloc; false; pages]?,
+            marked: unmarked_places(alloc, pages)?,
             kept: Vec::new(alloc),
             hints: vec![in alloc; 0; HINTS]?,
         })
@@ -83,12 +93,9 @@ impl PageCache {
     }
 
     /// The page of this place counts as used.
-    fn use_place(&mut self, place: usize)
-        ensures numbers { self.new.numbers.items ≡ self.old.numbers.items }
-        ensures kept { self.new.kept.items ≡ self.old.kept.items }
-    {
+    fn use_place(&self, place: usize) {
         if place < self.marked.len() {
-            self.marked[place] = true;
+            self.marked[place].set(true);
         }
     }
 
@@ -105,23 +112,15 @@ impl PageCache {
         true
     }
 
-    /// Whether the page is there, which then counts as used.
-    pub fn touch(&mut self, page: u32) -> bool
-        ensures { OnlyForgets self.old self.new }
-    {
-        let Some(place) = self.place_of(page) else {
-            return false;
-        };
-        self.use_place(place);
-        true
-    }
-
-    /// The bytes of the page, if it is there.
+    /// The bytes of the page, if it is there, which then counts as used.
     pub fn bytes_of(&self, page: u32) -> Option<&[u8; 4096]>
         ensures { IfSome result (λ bytes. HoldsPage self.now page bytes.now) }
     {
         match self.place_of(page) {
-            Some(place) => Some(&self.kept[place]),
+            Some(place) => {
+                self.use_place(place);
+                Some(&self.kept[place])
+            }
             None => None,
         }
     }
@@ -160,9 +159,8 @@ impl PageCache {
         let Some(order) = &mut self.order else {
             return;
         };
-        for (place, marked) in self.marked.iter_mut().enumerate() {
-            if *marked {
-                *marked = false;
+        for (place, marked) in self.marked.iter().enumerate() {
+            if marked.take() {
                 let _distinct = order.len();
                 order.promote(&place);
             }
@@ -264,7 +262,7 @@ impl PageCache {
         ensures kept { self.new.kept.items ≡ self.old.kept.items }
     {
         if place < self.marked.len() {
-            self.marked[place] = false;
+            self.marked[place].set(false);
         }
         if let Some(order) = &mut self.order {
             let _distinct = order.len();

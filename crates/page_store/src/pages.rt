@@ -63,12 +63,9 @@ pub trait Pages {
         ensures closed { (store self.old).closed ≡ true → IsErrOf result PageFault.Closed }
         ensures works { StoreWorks (store self.old) (store self.new) };
 
-    /// Counts as a use of the page, if it is in memory: so a page that is asked for stays there. It never uses the disk.
-    fn touch(&mut self, page: u32) -> bool
-        ensures { store self.new ≡ store self.old };
-
-    /// What was last written to the page, as it stands in memory; none where it does not, and of a closed store. What is
-    /// not answered here is read by `read_page`.
+    /// What was last written to the page, as it stands in memory; none where it does not, and of a closed store. It never uses
+    /// the disk, and counts as a use of the page, so that one that is asked for stays in memory. What is not answered here is
+    /// read by `read_page`.
     fn bytes_of(&self, page: u32) -> Option<&[u8; 4096]>
         ensures bytes { IsTrue (store self.now).disk.honest → IfSome result (λ bytes. bytes.now ≡ reads (store self.now) page) }
         ensures is_page { OnSome result (1 ≤ page) }

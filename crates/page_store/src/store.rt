@@ -212,10 +212,6 @@ impl<D: SectorDisk> Pages for PageStore<D> {
         Ok(())
     }
 
-    fn touch(&mut self, page: u32) -> bool {
-        self.disk.page_in_memory(page).is_some() || self.cache.touch(page)
-    }
-
     fn bytes_of(&self, page: u32) -> Option<&[u8; 4096]> {
         if self.closed {
             return None;
