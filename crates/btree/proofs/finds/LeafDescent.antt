@@ -1,7 +1,6 @@
 -- The descent to a leaf.
-use Rattle.std.proofs.Common.{◌≡◌, inl, inr, ℕ, ◌+◌, ◌≤◌, List, Option, None, Some, length, IsTrue, refl, sym, ◌∙◌, ap, subst, arith}
+use Rattle.std.proofs.Common.{◌≡◌, inl, inr, ℕ, ◌+◌, ◌≤◌, List, Option, None, length, IsTrue, sym, ◌∙◌, ap, subst, arith}
 use Rattle.std.specs.Option.{option_or}
-use Rattle.arrayvec.specs.ArrayVec.{ArrayVec}
 use Rattle.sector_disk.specs.lemmas.Moments.{still_honest}
 use Rattle.page_store.specs.declared.fault.PageFault.{PageFault}
 use Rattle.page_store.specs.declared.fault.PageFault.TheVariants.{Disk, NotATable, Damaged, TableFull, OutOfMemory, Closed}
@@ -15,7 +14,6 @@ use Rattle.btree.specs.Page.{Item, items_in, child_of, IsPage}
 use Rattle.btree.specs.Changes.{HoldsMap, MapReadCause}
 use Rattle.btree.specs.lemmas.Unchanged.{unchanged_refl, unchanged_then, unchanged_reads, grew_before}
 use Rattle.btree.specs.lemmas.Way.{IsWay, BelongsHere, way_begins, way_within, way_goes_on, way_has_kind, way_ends, way_down}
-use Rattle.btree.specs.Answers.{found_bytes}
 use Rattle.btree.specs.lemmas.Steps.{IsStepDown, ReachesLeaf}
 
 -- so far only pages were read, and the key belongs below this page
@@ -31,10 +29,6 @@ starts w store root key some = record {
   works = works_refl store;
   way = λ honest pages es holds. way_begins w (reads store) (length store.marks) root pages es key some holds;
 }
-
-bytes_or : (one other : Option (ArrayVec ℕ)) → found_bytes (option_or one other) ≡ option_or (found_bytes one) (found_bytes other)
-bytes_or None other = refl
-bytes_or (Some v) other = refl
 
 module _ (w : Widths) (old mid new : Store) (root : ℕ) (key : List ℕ) (level page : ℕ) (next : Option (List ℕ))
     (so_far : IsReaching w old mid root key level page next)
@@ -77,14 +71,6 @@ module _ (w : Widths) (old mid new : Store) (root : ℕ) (key : List ℕ) (level
         (subst (λ (n : Option (List ℕ)). IsWay w (reads old) (length old.marks) es key (level + 1) (child_of there.child)
         (option_or n next)) (sym there.next_is) down);
   }
-
-  pub read_on : IsPage w Inner bytes → (child : ℕ) (behind rest found : Option (ArrayVec ℕ)) → found_bytes rest ≡ next
-      → found ≡ option_or behind rest → IsStepDown w bytes key child (found_bytes behind)
-      → IsReaching w old new root key (level + 1) child (found_bytes found)
-  read_on inner child behind rest found was is step =
-      let same : option_or (found_bytes behind) next ≡ found_bytes found = (λ i. option_or (found_bytes behind) (sym was i))
-      ∙ sym (ap found_bytes is ∙ bytes_or behind rest) in
-      subst (λ (n : Option (List ℕ)). IsReaching w old new root key (level + 1) child n) same (read_inner inner child (found_bytes behind) step)
 
 -- the next page is not read
 pub read_cause : (w : Widths) (old mid new : Store) (root : ℕ) (key : List ℕ) (level page : ℕ) (next : Option (List ℕ))

@@ -1,7 +1,6 @@
 -- The descent to the next entry.
 use Rattle.std.proofs.Common.{◌≡◌, inl, inr, ℕ, ◌+◌, List, Option, IsTrue, refl}
 use Rattle.std.specs.Option.{option_or}
-use Rattle.arrayvec.specs.ArrayVec.{ArrayVec}
 use Rattle.sector_disk.specs.lemmas.Moments.{still_honest}
 use Rattle.page_store.specs.declared.fault.PageFault.{PageFault}
 use Rattle.page_store.specs.declared.fault.PageFault.TheVariants.{Disk, NotATable, Damaged, TableFull, OutOfMemory, Closed}
@@ -12,11 +11,10 @@ use Rattle.btree.specs.declared.page.widths.Widths.{Widths}
 use Rattle.btree.specs.Page.{Item, items_in, IsPage}
 use Rattle.btree.specs.Changes.{MapReadCause}
 use Rattle.btree.specs.Entries.{Ascend, next_after}
-use Rattle.btree.specs.Answers.{found_bytes}
 use Rattle.btree.specs.lemmas.Ahead.{ReachesNext}
 use Rattle.btree.specs.lemmas.Seen.{SeenCause}
 use Rattle.btree.specs.lemmas.Steps.{IsStepDown}
-use Rattle.btree.proofs.finds.LeafDescent.{IsReaching, read_unchanged, read_works, read_damaged, read_leaf, read_on, read_cause}
+use Rattle.btree.proofs.finds.LeafDescent.{IsReaching, read_unchanged, read_works, read_damaged, read_leaf, read_inner, read_cause}
 
 module _ (w : Widths) (old mid new : Store) (root : ℕ) (key : List ℕ) (level page : ℕ) (next : Option (List ℕ))
     (so_far : IsReaching w old mid root key level page next)
@@ -45,15 +43,15 @@ module _ (w : Widths) (old mid new : Store) (root : ℕ) (key : List ℕ) (level
   }
 
   -- an inner page
-  pub looked_on : (child : ℕ) (behind rest found : Option (ArrayVec ℕ)) → found_bytes rest ≡ next → found ≡ option_or behind rest
-      → (IsTrue mid.disk.honest → IsPage w Inner (reads mid page) × IsStepDown w (reads mid page) key child (found_bytes behind))
-      → IsReaching w old new root key (level + 1) child (found_bytes found)
-  looked_on child behind rest found was is seen = record {
+  pub looked_on : (child : ℕ) (behind : Option (List ℕ))
+      → (IsTrue mid.disk.honest → IsPage w Inner (reads mid page) × IsStepDown w (reads mid page) key child behind)
+      → IsReaching w old new root key (level + 1) child (option_or behind next)
+  looked_on child behind seen = record {
     unchanged = looked_unchanged;
     works = looked_works;
     way = λ honest.
         let (inner, step) = seen (now honest) in
-        (read_on w old mid new root key level page next so_far same works (reads mid page) (λ _. refl) inner child behind rest found was is step).way honest;
+        (read_inner w old mid new root key level page next so_far same works (reads mid page) (λ _. refl) inner child behind step).way honest;
   }
 
   -- the page is not seen

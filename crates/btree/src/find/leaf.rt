@@ -1,5 +1,5 @@
 //! A leaf is read.
-ghost use Rattle.std.specs.Prelude.{◌≡◌};
+ghost use Rattle.std.specs.Prelude.{◌≡◌, false};
 ghost use Rattle.btree.specs.Page.{items_in, IsPage};
 ghost use Rattle.btree.specs.declared.page.kind.Kind.TheVariants.{Leaf};
 ghost use Rattle.btree.specs.Entries.{Ascend, find_entry, next_after};
@@ -26,10 +26,11 @@ pub fn value_in(widths: Widths, leaf: &[u8; 4096], key: &[u8], into: &mut Bytes)
     }
 }
 
-/// Whether the leaf has an entry with a greater key. The buffer is filled with the first of them.
+/// Whether the leaf has an entry with a greater key. The buffer is filled with the first of them, and else left as it is.
 pub fn entry_after(widths: Widths, leaf: &[u8; 4096], key: &[u8], into: &mut Entry) -> bool
     requires { IsPage widths Leaf leaf.now }
-    ensures { Ascend (items_in widths Leaf leaf.now) → filled_entry result into.new ≡ next_after (items_in widths Leaf leaf.now) key.now }
+    ensures next { Ascend (items_in widths Leaf leaf.now) → filled_entry result into.new ≡ next_after (items_in widths Leaf leaf.now) key.now }
+    ensures same { result ≡ false → into.new ≡ into.old }
 {
     let place = place_of(widths, Kind::Leaf, leaf, key);
     if place < count_of(leaf) {

@@ -23,7 +23,7 @@ pub enum Seen {
 }
 
 /// The child where the key belongs.
-fn child_in(widths: Widths, bytes: &[u8; 4096], key: &[u8]) -> u32
+pub fn child_in(widths: Widths, bytes: &[u8; 4096], key: &[u8]) -> u32
     requires { IsPage widths Inner bytes.now }
     ensures { LeadsOn widths bytes.now key.now result }
 {
@@ -78,9 +78,6 @@ pub fn look_at<P: Pages>(
     ensures read { PagesRead (P.store store.old) (P.store store.new) }
     ensures cause { IfErr result (SeenCause widths page (P.store store.old) (P.store store.new)) }
 {
-    if !store.touch(page) {
-        return look_far(store, widths, page, key, into);
-    }
     match store.bytes_of(page) {
         Some(bytes) => match seen_in(widths, bytes, key, into) {
             Some(seen) => Ok(seen),

@@ -77,15 +77,14 @@ pub fn next_into<P: Pages>(
     if root == 0 {
         return Ok(false);
     }
-    let (found, behind) = reach_next(store, widths, root, key, into)?;
+    let (found, more) = reach_next(store, widths, root, key, into)?;
     if found {
         return Ok(true);
     }
-    let Some(next) = behind else {
+    if !more {
         return Ok(false);
-    };
-    if get_into(store, widths, root, &next, &mut into.value)? {
-        into.key = next;
+    }
+    if get_into(store, widths, root, &into.key, &mut into.value)? {
         Ok(true)
     } else {
         Err(PageFault::Damaged)

@@ -9,7 +9,7 @@ ghost use Rattle.btree.specs.Entries.{Ascend, find_entry};
 ghost use Rattle.btree.specs.LeafRead.{HasKey};
 ghost use Rattle.btree.specs.lemmas.Leaves.{IsLeafFor};
 
-use crate::find::way::step;
+use crate::find::look::child_in;
 use crate::map::MAX_LEVELS;
 use crate::page::{Kind, Widths, count_of, item_at, kind_of, place_of};
 use page_store::{PageFault, Pages};
@@ -46,7 +46,7 @@ fn go_down<P: Pages>(
         match kind_of(widths, leaf) {
             None => return Err(PageFault::Damaged),
             Some(Kind::Leaf) => return Ok(()),
-            Some(Kind::Inner) => page = step(widths, leaf, key).0,
+            Some(Kind::Inner) => page = child_in(widths, leaf, key),
         }
     }
     Err(PageFault::Damaged)

@@ -12,7 +12,10 @@ use crate::page::widths::Widths;
 use byteorder::{BigEndian, ByteOrder};
 use std::cmp::Ordering;
 
-/// Keys of this many bytes at most may be numbers, or begin with one.
+/// How many bytes a number takes with which a key may begin.
+const NUMBER: usize = 4;
+
+/// Keys of this many bytes at most may be numbers side by side, or begin with such.
 const NUMBERS: usize = 8;
 
 /// How many items the page says that it has.
@@ -57,26 +60,15 @@ pub fn item_at(widths: Widths, kind: Kind, bytes: &[u8; 4096], place: usize) -> 
 
 /// The first four bytes of a key as a number; 0 where it has fewer.
 fn head_of(key: &[u8]) -> u32 {
-    if key.len() < 4 {
+    if key.len() < NUMBER {
         return 0;
     }
-    let (front, _) = key.split_at(4);
+    let (front, _) = key.split_at(NUMBER);
     BigEndian::read_u32(front)
 }
 
-/// A guess at the index of a number among this many that ascend, of which these are the first and the last: by interpolation.
-fn share_of(number: u32, first: u32, last: u32, count: usize) -> usize {
-    let along = number.saturating_sub(first) as usize;
-    let long = last.saturating_sub(first) as usize;
-    if long == 0 || long == count {
-        along
-    } else {
-        along.saturating_mul(count) / long
-    }
-}
-
-/// Where a key may well be among the items of a page, judged by the first bytes of keys: at the end, or, where keys are numbers,
-/// as far along as it is between the first and the last. None where that says nothing.
+/// Where a key may well be among the items of a page, judged by the first bytes of keys: at the end, or, where these are numbers side by
+/// side, as far along as it is behind the first. None where that says nothing.
 fn guess(widths: Widths, kind: Kind, bytes: &[u8; 4096], key: &[u8]) -> Option<usize>
     requires { IsPage widths kind bytes.now }
 {
@@ -93,7 +85,12 @@ fn guess(widths: Widths, kind: Kind, bytes: &[u8; 4096], key: &[u8]) -> Option<u
         return None;
     }
     let (first_key, _) = item_at(widths, kind, bytes, 0);
-    Some(share_of(number, head_of(first_key), last_number, last))
+    let first = head_of(first_key);
+    if last_number.saturating_sub(first) as usize == last {
+        Some(number.saturating_sub(first) as usize)
+    } else {
+        None
+    }
 }
 
 /// A place between two: this one, or the nearest to it, if it is given, and else the middle.

@@ -6,7 +6,7 @@ ghost use Rattle.btree.specs.Page.{count_in, item_width, IsPage};
 ghost use Rattle.btree.specs.lemmas.EntryPut.{IsEntryPlace, IsEntryPut};
 
 use crate::page::{Kind, ROOM, Widths, count_of, kind_of};
-use crate::put::items::{new_entry, places_of, splice_in};
+use crate::put::items::{places_of, put_on_page};
 use sector_disk::{PageEdit, Span};
 
 /// This value is put at this key, on a leaf that has room for it and an entry before it.
@@ -59,15 +59,6 @@ impl PageEdit for EntryPut<'_> {
     }
 
     fn apply(&self, page: &mut [u8; 4096], span: Span) {
-        let entry = new_entry(self.widths, self.key, self.value);
-        splice_in(
-            self.widths,
-            Kind::Leaf,
-            page,
-            span.from,
-            span.to,
-            1,
-            &entry.bytes,
-        );
+        put_on_page(self.widths, page, span.from, span.to, self.key, self.value);
     }
 }

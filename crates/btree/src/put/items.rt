@@ -139,24 +139,28 @@ fn move_within(page: &mut [u8; 4096], start: usize, end: usize, to: usize)
     requires room { to + (end - start) ≤ 4096 }
     ensures { page.new ≡ copy_within page.old start end to }
 {
-    if start == to {
-        return;
-    }
     if start == end {
         return;
     }
-    move_by_copy(page, start, end, to);
+    if to < start {
+        page.copy_within(start..end, to);
+    } else if start < to {
+        move_on(page, start, end, to - start);
+    }
 }
 
-/// `move_within` by way of a copy of the page: a function of its own, so that the copy takes room here alone.
-fn move_by_copy(page: &mut [u8; 4096], start: usize, end: usize, to: usize)
+/// Moves the bytes `start..end` of a page on by so many. Where it knows how many these are, the compiler makes one `memmove` of it: by eight
+/// goes an entry of two numbers.
+fn move_on(page: &mut [u8; 4096], start: usize, end: usize, by: usize)
     requires order { start ≤ end }
-    requires within { end ≤ 4096 }
-    requires room { to + (end - start) ≤ 4096 }
-    ensures { page.new ≡ copy_within page.old start end to }
+    requires room { end + by ≤ 4096 }
+    ensures { page.new ≡ copy_within page.old start end (start + by) }
 {
-    let was = *page;
-    page[to..to + (end - start)].copy_from_slice(&was[start..end]);
+    if by == 8 {
+        page.copy_within(start..end, start + 8);
+    } else {
+        page.copy_within(start..end, start + by);
+    }
 }
 
 /// Splices items in on the page itself, where it has room. What stands after its items is moved along or stays.
@@ -190,6 +194,36 @@ pub fn splice_in(
     move_within(page, rest, last, end);
     page[start..end].copy_from_slice(bytes);
     set_count(page, from + count + (all - to));
+}
+
+/// Puts a key with its value on a leaf itself, which has room for it, in the place of its items from one place up to another.
+pub fn put_on_page(
+    widths: Widths,
+    page: &mut [u8; 4096],
+    from: usize,
+    to: usize,
+    key: &[u8],
+    value: &[u8],
+)
+    requires page { IsPage widths Leaf page.old }
+    requires order { from ≤ to }
+    requires within { to ≤ count_in page.old }
+    requires key { length key.now ≡ widths.key }
+    requires value { length value.now ≡ widths.value }
+    requires room { (from + 1 + (count_in page.old - to)) * item_width widths Leaf ≤ ROOM }
+    ensures page { IsPage widths Leaf page.new }
+    ensures items { items_in widths Leaf page.new
+        ≡ take from (items_in widths Leaf page.old) ++ (key.now, value.now) ∷ drop to (items_in widths Leaf page.old) }
+{
+    let width = widths.key + widths.value;
+    let all = count_of(page);
+    let start = HEAD + from * width;
+    let behind = start + key.len();
+    let end = behind + value.len();
+    move_within(page, HEAD + to * width, HEAD + all * width, end);
+    page[start..behind].copy_from_slice(key);
+    page[behind..end].copy_from_slice(value);
+    set_count(page, from + 1 + (all - to));
 }
 
 /// This key with this value.

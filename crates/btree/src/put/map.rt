@@ -57,7 +57,7 @@ pub fn put<P: Pages>(
 }
 
 /// Puts the value where there is a root, and writes each page on the way to the leaf anew.
-fn put_anew<P: Pages>(
+pub fn put_anew<P: Pages>(
     store: &mut P,
     widths: Widths,
     root: u32,

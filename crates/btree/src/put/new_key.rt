@@ -1,5 +1,5 @@
 //! An entry is put into a map that does not have its key yet; one that has it is left alone.
-ghost use Rattle.std.specs.Prelude.{◌≡◌, ◌+◌, ◌*◌, ℕ, List, length};
+ghost use Rattle.std.specs.Prelude.{◌≡◌, ◌≢◌, ◌+◌, ◌*◌, ℕ, List, length};
 ghost use Rattle.std.specs.Prelude.{IfOk, IfErr, IfSome, IfNone, OnSome, IsTrue};
 ghost use Rattle.page_store.specs.Marks.{free_count};
 ghost use Rattle.page_store.specs.Frames.{PagesRead, PagesWritten, PagesRefused};
@@ -12,7 +12,7 @@ ghost use Rattle.btree.specs.declared.map.limits.TheConstants.{MAX_LEVELS};
 use crate::find::{Bytes, get_into};
 use crate::page::Widths;
 use crate::put::in_place::put_in_place;
-use crate::put::map::{LEVELS, put};
+use crate::put::map::{LEVELS, put, put_anew};
 use page_store::{PageFault, Pages};
 
 /// Puts this value at this key, and answers the new root, as `put` does; where the map has the key, with any value, it is left as it is,
@@ -61,6 +61,7 @@ fn put_looked<P: Pages>(
     key: &[u8],
     value: &[u8],
 ) -> Result<Option<u32>, PageFault>
+    requires some { root ≢ 0 }
     requires key { length key.now ≡ widths.key }
     requires value { length value.now ≡ widths.value }
     ensures told { IsTrue (P.store store.old).disk.honest → (pages : List ℕ) (es : List Item)
@@ -82,6 +83,6 @@ fn put_looked<P: Pages>(
     if there {
         return Ok(None);
     }
-    let next = put(store, widths, root, key, value)?;
+    let next = put_anew(store, widths, root, key, value)?;
     Ok(Some(next))
 }

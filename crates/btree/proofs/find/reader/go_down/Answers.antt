@@ -1,7 +1,6 @@
 use Rattle.std.proofs.Common.{subst}
 use Rattle.btree.specs.declared.page.kind.Kind.{Kind}
 use Rattle.btree.specs.Page.{IsPage}
-use Rattle.btree.specs.Answers.{found_bytes}
 use Rattle.btree.proofs.finds.Exits.{passed_on}
 use Rattle.btree.proofs.finds.ValueDescent.{sets_out, went_read, unseen, too_far}
 use Rattle.btree.proofs.finds.LastLeaf.{as_seen, leads_down, leaf_for, no_page}
@@ -32,9 +31,9 @@ returns-in-Some-Leaf-clause-belongs g c =
 pub loop-preserved : goal.loop-preserved
 loop-preserved g c =
     leads_down _ _ _ (g.P.Pages.store c.read_page.new.self) _ _ _ _ c.loop.invariant c.in_ok-read_page.ensures.unchanged c.in_ok-read_page.ensures.works c.read_page.new.into c.in_ok-read_page.ensures.bytes
-    c.step-page.result.0
+    c.child_in-page.result
     (subst (λ (kind : Kind). IsPage c.args.widths kind c.read_page.new.into) c.in-Some-Inner.field-0-is c.in-Some-Inner.ensures.some)
-    (found_bytes c.step-page.result.1, c.step-page.ensures)
+    c.child_in-page.ensures
 
 pub returns-clause-cause : goal.returns-clause-cause
 returns-clause-cause g c = too_far _ _ _ _ _ _ _ c.loop.invariant c.loop-test.false

@@ -30,7 +30,7 @@ pub returns-in_err-next-clause-err : goal.returns-in_err-next-clause-err
 returns-in_err-next-clause-err g c =
     let old = g.P.Pages.store c.args.store.now in
     let mid = g.P.Pages.store c.get_into.new.store in
-    let new = g.P.Pages.store c.put.new.store in
+    let new = g.P.Pages.store c.put_anew.new.store in
     let read = c.in_ok-there.ensures.read in
     passed_on _ c.from_residual-in_err-next.result _ c.from_residual-in_err-next.ensures
     (refused_since 0 read.works read.unchanged.closed (read_takes read) (omega arith) (not_put c.args.widths c.args.root old mid new read _)
