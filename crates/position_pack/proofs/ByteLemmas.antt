@@ -95,9 +95,9 @@ no_more (x ∷ xs) n (suc i) = no_more xs n i
 
 -- ---- bits to bytes to bits
 
-eight : (xs : List ℕ) → 8 ≤ length xs
+pub first_eight : (xs : List ℕ) → 8 ≤ length xs
     → xs ≡ get_or xs 0 0 ∷ get_or xs 1 0 ∷ get_or xs 2 0 ∷ get_or xs 3 0 ∷ get_or xs 4 0 ∷ get_or xs 5 0 ∷ get_or xs 6 0 ∷ get_or xs 7 0 ∷ drop 8 xs
-eight xs le =
+first_eight xs le =
     let cut : (j : ℕ) → j < 8 → drop j xs ≡ get_or xs j 0 ∷ drop (suc j) xs = λ j lt. drop-cons xs j 0 (omega (arith, lt, le)) in
     cut 0 (omega arith) ∙ ap (λ r. get_or xs 0 0 ∷ r) (cut 1 (omega arith)) ∙ ap (λ r. get_or xs 0 0 ∷ get_or xs 1 0 ∷ r) (cut 2 (omega arith))
     ∙ ap (λ r. get_or xs 0 0 ∷ get_or xs 1 0 ∷ get_or xs 2 0 ∷ r) (cut 3 (omega arith))
@@ -142,7 +142,7 @@ bits_again (suc n) xs bits e =
     let rest : all_bits (bytes_from n (drop 8 xs)) ≡ drop 8 xs = bits_again n (drop 8 xs) (bits_drop 8 xs bits) short in
     all_bits-cons (first_byte xs) (bytes_from n (drop 8 xs)) ∙ ap (λ ys. ys ++ all_bits (bytes_from n (drop 8 xs))) one
     ∙ ap (λ ys. get_or xs 0 0 ∷ get_or xs 1 0 ∷ get_or xs 2 0 ∷ get_or xs 3 0 ∷ get_or xs 4 0 ∷ get_or xs 5 0 ∷ get_or xs 6 0 ∷ get_or xs 7 0 ∷ ys) rest
-    ∙ sym (eight xs long)
+    ∙ sym (first_eight xs long)
 
 pub length-bytes_from : (n : ℕ) (xs : List ℕ) → length (bytes_from n xs) ≡ n
 length-bytes_from zero xs = refl

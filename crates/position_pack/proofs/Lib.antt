@@ -6,6 +6,8 @@ pub mod BitLemmas
 pub mod ByteLemmas
 pub mod FieldLemmas
 pub mod ShiftLemmas
+pub mod JoinLemmas
+pub mod LaneLemmas
 pub mod ReadLemmas
 pub mod PartFields
 pub mod PieceBits

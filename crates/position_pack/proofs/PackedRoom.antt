@@ -1,5 +1,5 @@
 -- That the parts of a position have room, and how long what is written is behind each.
-use Rattle.std.proofs.Common.{◌≡◌, ◌≤◌, ◌+◌, ◌-◌, ◌*◌, ◌++◌, ℕ, List, length, ap, ◌∙◌, arith}
+use Rattle.std.proofs.Common.{◌≡◌, ◌≤◌, ◌+◌, ◌-◌, ◌*◌, ◌++◌, ℕ, List, length, refl, ap, ◌∙◌, arith}
 use Rattle.std.specs.List.{flat_map, sum_by}
 use Rattle.std.proofs.lemmas.List.{length-append}
 use Rattle.position_pack.specs.Bits.{width, bits_of, field_bits}
@@ -42,3 +42,12 @@ value_long before w n is =
     let both = length-append before (bits_of w n) in
     let all = length-bits w n in
     omega (arith, long, both, all)
+
+-- behind the last three values
+pub last_long : (before : List ℕ) (v m r x y z : ℕ) {after : List ℕ}
+    → after ≡ ((before ++ bits_of v x) ++ bits_of m y) ++ bits_of r z → length after ≡ length before + v + m + r
+last_long before v m r x y z is =
+    let third = value_long ((before ++ bits_of v x) ++ bits_of m y) r z is in
+    let second = value_long (before ++ bits_of v x) m y refl in
+    let first = value_long before v x refl in
+    omega (arith, third, second, first)

@@ -53,13 +53,6 @@ byte_behind bs b = sym (flat_map_more (bits_of 8) [] bs b)
 
 -- ---- writing
 
--- a value after what is held
-pub put_behind : (bs : List ℕ) (count w held value n : ℕ) → n ≡ held * 2 ^ w + value % 2 ^ w
-    → all_bits bs ++ bits_of (count + w) n ≡ (all_bits bs ++ bits_of count held) ++ bits_of w value
-put_behind bs count w held value n is =
-    ap (λ k. all_bits bs ++ bits_of (count + w) k) is ∙ ap (λ xs. all_bits bs ++ xs) (bits_more count w held (value % 2 ^ w) (below_power value w))
-    ∙ ap (λ xs. all_bits bs ++ (bits_of count held ++ xs)) (bits_low w value) ∙ sym (append_assoc (all_bits bs) (bits_of count held) (bits_of w value))
-
 -- a whole byte of what is held
 pub byte_out : (bs cs : List ℕ) (count d held : ℕ) (all : List ℕ) → count ≡ 8 + d → cs ≡ bs ++ held / 2 ^ d ∷ [] → all_bits bs ++ bits_of count held ≡ all
     → all_bits cs ++ bits_of d (held % 2 ^ d) ≡ all

@@ -1,9 +1,10 @@
 //! The fields of a position as numbers, and their bits.
 
-ghost use Rattle.std.specs.Prelude.{◌≡◌, ◌+◌, ◌-◌, ◌*◌, ◌/◌, ◌≤◌, ◌<◌, ◌++◌, ℕ, List, [], length, slice_index, MatchBool, MatchOption};
+ghost use Rattle.std.specs.Prelude.{◌≡◌, ◌+◌, ◌-◌, ◌*◌, ◌/◌, ◌≤◌, ◌<◌, ◌^◌, ◌++◌, ℕ, List, [], length, slice_index, bit_and, MatchBool, MatchOption};
 ghost use Rattle.std.specs.List.{flat_map, sum_by};
 ghost use Rattle.arrayvec.specs.ArrayVec.{array_vec_len};
 ghost use Rattle.position_pack.specs.Fields as spec;
+ghost use Rattle.position_pack.specs.Fields.{role_code};
 ghost use Rattle.position_pack.specs.Bits as bits;
 ghost use Rattle.position_pack.specs.Bits.{width, bits_of, field_bits, bytes_of_bits};
 ghost use Rattle.position_pack.specs.lemmas.Bits.{AreFields, IsFieldsOf, AreInRange};
@@ -12,7 +13,7 @@ ghost use Rattle.position_pack.specs.lemmas.Streams.{written, IsWriter};
 use crate::packed::Packed;
 use crate::parts::{role_byte, role_of};
 use crate::reader::{Reader, take};
-use crate::writer::{Writer, finish, new_writer, put};
+use crate::writer::{Writer, finish, new_writer, put, put_low};
 use arrayvec::ArrayVec;
 use rbg_game::position::{Position, SemiState};
 
@@ -25,7 +26,7 @@ pub fn width_of(most: u32) -> u32
     ensures is { result ≡ width most }
     ensures word { result ≤ 32 }
 {
-    if most == 0 { 0 } else { most.ilog2() + 1 }
+    (2 * u64::from(most) + 1).ilog2()
 }
 
 /// The greatest value of each field.
@@ -160,9 +161,77 @@ pub fn put_piece_bits(writer: &mut Writer, width: u32, pieces: &[u8])
     ensures writer { IsWriter writer.new }
     ensures bits { written writer.new ≡ written writer.old ++ flat_map (bits_of width) pieces.now }
 {
-    for piece in pieces {
+    let rest = put_eights(writer, width, pieces);
+    for piece in rest {
         put(writer, width, u32::from(*piece));
     }
+}
+
+/// Writes pieces by eights, each in this many bits, where eight have room in a word. Answers those
+/// that are left.
+#[inline(always)]
+fn put_eights<'a>(writer: &mut Writer, width: u32, pieces: &'a [u8]) -> &'a [u8]
+    requires writer { IsWriter writer.old }
+    requires room { length (written writer.old) + length pieces.now * width ≤ 1920 }
+    ensures writer { IsWriter writer.new }
+    ensures bits { written writer.new ++ flat_map (bits_of width) result.now
+        ≡ written writer.old ++ flat_map (bits_of width) pieces.now }
+{
+    let mut rest = pieces;
+    while width <= 4 && rest.len() >= 8 {
+        let (eight, more) = rest.split_at(8);
+        put_low(writer, 8 * width, joined(width, eight));
+        rest = more;
+    }
+    rest
+}
+
+/// The bits of eight pieces, each in this many, as one number. All of them are moved at once, in
+/// the bytes of a word: bytes become pairs, those fours, and those the eight.
+#[inline(always)]
+fn joined(width: u32, pieces: &[u8]) -> u64
+    requires width { width ≤ 4 }
+    requires eight { length pieces.now ≡ 8 }
+    ensures low { result < 2 ^ (8 * width) }
+    ensures bits { bits_of (8 * width) result ≡ flat_map (bits_of width) pieces.now }
+{
+    let word = u64::from_be_bytes([
+        pieces[0], pieces[1], pieces[2], pieces[3], pieces[4], pieces[5], pieces[6], pieces[7],
+    ]);
+    let ones = (1u64 << width) - 1;
+    let bytes = word & (ones * 0x0101_0101_0101_0101);
+    let pairs = halved(bytes, 8, 0x00ff_00ff_00ff_00ff, width);
+    let fours = halved(pairs, 16, 0x0000_ffff_0000_ffff, 2 * width);
+    halved(fours, 32, 0xffff_ffff, 4 * width)
+}
+
+/// A word of two kinds of parts that take turns, with those of the upper kind moved down: they are
+/// `shift` bits higher than the others, and behind it `width`.
+#[inline(always)]
+fn halved(word: u64, shift: u32, mask: u64, width: u32) -> u64
+    requires shift { shift ≤ 32 }
+    requires width { width ≤ shift }
+    requires parts { word ≡ bit_and (word / 2 ^ shift) mask * 2 ^ shift + bit_and word mask }
+    ensures { result ≡ bit_and (word / 2 ^ shift) mask * 2 ^ width + bit_and word mask }
+{
+    word - ((word >> shift) & mask) * ((1 << shift) - (1 << width))
+}
+
+/// Writes the vertex, the role and the place of a position.
+#[inline(always)]
+pub fn put_last_fields(writer: &mut Writer, vertices: u8, actions: u16, at: &Position)
+    requires writer { IsWriter writer.old }
+    requires room { length (written writer.old) + width (vertices - 1) + width 2 + width actions ≤ 1920 }
+    requires vertices { 0 < vertices }
+    ensures writer { IsWriter writer.new }
+    ensures bits { written writer.new ≡ ((written writer.old ++ bits_of (width (vertices - 1)) at.now.state.vertex)
+        ++ bits_of (width 2) (role_code at.now.state.mover)) ++ bits_of (width actions) at.now.place }
+{
+    let vertex = width_of(u32::from(vertices - 1));
+    let place = width_of(u32::from(actions));
+    let front = u64::from(at.state.vertex) * 4 + u64::from(role_byte(at.state.mover));
+    let last = (front << place) + u64::from(at.place) % (1 << place);
+    put(writer, vertex + 2 + place, last as u32);
 }
 
 /// Puts the fields with these bytes into the list: false where one is over its greatest value, or a

@@ -1,24 +1,25 @@
 //! A position as bytes, and back.
 
-ghost use Rattle.std.specs.Prelude.{◌≡◌, ◌<◌, ◌≤◌, length, MatchOption};
+ghost use Rattle.std.specs.Prelude.{◌≡◌, ◌<◌, ◌≤◌, [], length, MatchOption};
 ghost use Rattle.rbg_game.specs.Meaning.{game_of};
 ghost use Rattle.rbg_game.specs.Sound.{IsSoundGame};
 ghost use Rattle.rbg_game.specs.declared.position.Position.{Position};
 ghost use Rattle.position_pack.specs.Shape.{IsSmall};
 ghost use Rattle.position_pack.specs.Bytes.{bytes_of};
 ghost use Rattle.position_pack.specs.Bits.{bytes_by_bits, field_at, greatest_of as greatest_by};
+ghost use Rattle.position_pack.specs.lemmas.Streams.{written, IsWriter};
 ghost use Rattle.position_pack.specs.Packings.{form_of, packed_by, length_by, IsPacked};
 ghost use Rattle.position_pack.specs.declared.kind.PackingKind.TheVariants.{Bytes, Bits};
 
 use crate::fields::{
     Fields, bits_in, bytes_of_fields, fields_of, greatest_of, position_of, put_fields,
-    put_piece_bits, take_fields, width_of,
+    put_last_fields, put_piece_bits, take_fields, width_of,
 };
 use crate::kind::PackingKind;
 use crate::limits::MAX_PACKED;
 use crate::parts::{all_below, put_bytes, put_values, role_byte, role_of, values_of, vector_of};
 use crate::reader::number_at;
-use crate::writer::{finish, new_writer, put};
+use crate::writer::{Writer, finish, new_writer};
 use arrayvec::ArrayVec;
 use rbg_game::count::action_count;
 use rbg_game::game::Game;
@@ -93,13 +94,18 @@ impl Packing {
     }
 
     /// The bytes of a position.
+    #[inline(never)]
     pub fn pack(&self, at: &Position) -> Packed
         ensures { result.items ≡ packed_by self.now.kind self.now.shape at.now }
     {
+        let mut writer = new_writer();
         match self.kind {
-            PackingKind::Bytes => pack_bytes(at),
-            PackingKind::Bits => self.pack_bits(at),
+            PackingKind::Bytes => {
+                put_position(&mut writer.bytes, &at.state, at.state.vertex, at.place);
+            }
+            PackingKind::Bits => self.put_position_bits(&mut writer, at),
         }
+        writer.bytes
     }
 
     /// The position with these bytes, where they are the bytes of a position whose fields are in
@@ -129,34 +135,36 @@ impl Packing {
         number_at(bytes, place, width_of(self.greatest[field]))
     }
 
-    /// The bytes by bits: the pieces and the values are written where they lie.
-    fn pack_bits(&self, at: &Position) -> Packed
-        ensures { result.items ≡ bytes_by_bits self.now.shape at.now }
+    /// Writes a position by bits into an empty writer: its parts are read where they lie.
+    #[inline(always)]
+    fn put_position_bits(&self, writer: &mut Writer, at: &Position)
+        requires writer { IsWriter writer.old }
+        requires empty { written writer.old ≡ [] }
+        ensures { writer.new.bytes.items ≡ bytes_by_bits self.now.shape at.now }
     {
         let state = &at.state;
         if state.pieces.len() != usize::from(self.vertices)
             || state.values.len() != self.bounds.len()
         {
-            return self.pack_fields(at);
+            self.put_packed(&mut writer.bytes, at);
+            return;
         }
-        let mut writer = new_writer();
         let piece = width_of(u32::from(self.pieces - 1));
-        put_piece_bits(&mut writer, piece, &state.pieces);
-        put_fields(&mut writer, &self.bounds, &state.values);
-        let vertex = width_of(u32::from(self.vertices - 1));
-        put(&mut writer, vertex, u32::from(state.vertex));
-        put(&mut writer, width_of(2), u32::from(role_byte(state.mover)));
-        put(
-            &mut writer,
-            width_of(u32::from(self.actions)),
-            u32::from(at.place),
-        );
-        finish(&mut writer);
-        writer.bytes
+        put_piece_bits(writer, piece, &state.pieces);
+        put_fields(writer, &self.bounds, &state.values);
+        put_last_fields(writer, self.vertices, self.actions, at);
+        finish(writer);
+    }
+
+    /// Puts the bytes by bits of any position in place of these.
+    #[inline(never)]
+    fn put_packed(&self, bytes: &mut Packed, at: &Position)
+        ensures { bytes.new.items ≡ bytes_by_bits self.now.shape at.now }
+    {
+        *bytes = self.pack_fields(at);
     }
 
     /// The bytes by bits of any position, by a list of all its fields.
-    #[inline(never)]
     fn pack_fields(&self, at: &Position) -> Packed
         ensures { result.items ≡ bytes_by_bits self.now.shape at.now }
     {
@@ -224,10 +232,18 @@ pub fn pack_bytes_at(state: &SemiState, vertex: u8, place: u16) -> Packed
     ensures { result.items ≡ bytes_of (record { state = record state.now { vertex = vertex }; place = place }) }
 {
     let mut bytes = Packed::new();
-    put_bytes(&mut bytes, &state.pieces);
-    put_values(&mut bytes, &state.values);
+    put_position(&mut bytes, state, vertex, place);
+    bytes
+}
+
+/// Puts the bytes by packing 1 of such a position where there are none yet.
+fn put_position(bytes: &mut Packed, state: &SemiState, vertex: u8, place: u16)
+    requires { bytes.old.items ≡ [] }
+    ensures { bytes.new.items ≡ bytes_of (record { state = record state.now { vertex = vertex }; place = place }) }
+{
+    put_bytes(bytes, &state.pieces);
+    put_values(bytes, &state.values);
     bytes.push(vertex);
     bytes.push(role_byte(state.mover));
-    put_bytes(&mut bytes, &place.to_be_bytes());
-    bytes
+    put_bytes(bytes, &place.to_be_bytes());
 }

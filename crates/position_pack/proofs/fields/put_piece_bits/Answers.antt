@@ -12,9 +12,14 @@ pub put-requires-clause-room : goal.put-requires-clause-room
 put-requires-clause-room c =
     let w = c.args.width in
     let ps = c.args.pieces.now in
+    let rest = c.put_eights-rest.result.now in
+    let first = written c.put_eights-rest.new.writer in
     let i = c.loop-piece.piece-index in
-    let bits = ap length c.loop-piece.invariant.bits ∙ length-append (written c.args.writer.now) (flat_map (bits_of w) (take i ps)) in
-    let one = length-flat_map-take (bits_of w) ps i 0 c.loop-piece-test.true in
-    let long = length-bits w (get_or ps i 0) in
+    let both = ap length c.put_eights-rest.ensures.bits in
+    let before = length-append first (flat_map (bits_of w) rest) in
+    let behind = length-append (written c.args.writer.now) (flat_map (bits_of w) ps) in
+    let bits = ap length c.loop-piece.invariant.bits ∙ length-append first (flat_map (bits_of w) (take i rest)) in
+    let one = length-flat_map-take (bits_of w) rest i 0 c.loop-piece-test.true in
+    let long = length-bits w (get_or rest i 0) in
     let all = length-piece_bits w ps in
-    omega (arith, bits, one, long, all, c.requires.room)
+    omega (arith, both, before, behind, bits, one, long, all, c.requires.room)

@@ -1,4 +1,4 @@
-use Rattle.std.proofs.Common.{◌≡◌, ℕ, ◌+◌, ◌*◌, ◌/◌, ◌%◌, ◌-◌, ◌^◌, ◌<◌, ◌++◌, length, get_or, refl, ap, sym, ◌∙◌, subst, arith}
+use Rattle.std.proofs.Common.{◌≡◌, ℕ, ◌+◌, ◌*◌, ◌/◌, ◌%◌, ◌-◌, ◌^◌, ◌<◌, ◌++◌, length, get_or, ap, sym, ◌∙◌, subst, arith}
 use Rattle.position_pack.specs.Bits.{bits_of}
 use Rattle.position_pack.proofs.ByteLemmas.{all_bits, low_push}
 use Rattle.position_pack.proofs.ShiftLemmas.{one_shifted, below_power, high_bits, byte_out, length-written}
@@ -7,9 +7,9 @@ use Rattle.position_pack.proofs.writer.put_held.Goals as goal
 pub loop-count-init : goal.loop-count-init
 loop-count-init c = record {
   wide = omega (arith, c.requires.holds.few);
-  low = c.requires.holds.low;
+  low = subst (λ n. n < 2 ^ c.args.writer.now.count) (sym c.from-held.ensures) c.requires.holds.low;
   bytes = c.requires.holds.bytes;
-  bits = refl;
+  bits = ap (λ n. all_bits c.args.writer.now.bytes.items ++ bits_of c.args.writer.now.count n) c.from-held.ensures;
 }
 
 pub overflow_cast-held : goal.overflow_cast-held
