@@ -72,6 +72,7 @@ impl Boards {
     }
 
     /// Adds a board with the pieces and values of the semi-state.
+    #[inline(always)]
     pub fn push(&mut self, state: &SemiState) -> Result<(), AllocError>
         requires whole { AreWhole self.old }
         requires large { IsAsLarge self.old state.now }
@@ -132,6 +133,7 @@ impl Boards {
     }
 
     /// Makes the semi-state the one on the board with this turn and vertex.
+    #[inline(always)]
     pub fn put(&self, board: usize, mover: Role, vertex: u8, state: &mut SemiState)
         requires whole { AreWhole self.now }
         requires board { board < self.now.count }

@@ -268,12 +268,15 @@ impl Hopper<'_> {
             → ¬ AsksTooMuch game (expression_at game index) jump.number (at_vertex (state_at (configurations_of found.now) at) jump.vertex) }
     {
         let Jump { number, vertex } = jump;
-        match self.searcher.tables[index].step(number) {
-            Step::Act(action) => {
-                let Stand { board, mover, .. } = found.stands[at];
-                let seen = found.boards.seen(board, mover, vertex);
-                Ok(glance_where_seen(self.searcher.game, action, seen))
-            }
+        let table = &self.searcher.tables[index];
+        let step = table.step(number);
+        let Stand { board, mover, .. } = found.stands[at];
+        let seen = found.boards.seen(board, mover, vertex);
+        if !table.may_pass(number, seen.pieces[usize::from(vertex)]) {
+            return Ok(Glance::Fails);
+        }
+        match step {
+            Step::Act(action) => Ok(glance_where_seen(self.searcher.game, action, seen)),
             Step::Ask(_, _) => {
                 found.show(at, here);
                 self.searcher
